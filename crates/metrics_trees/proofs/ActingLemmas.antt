@@ -1,9 +1,9 @@
 -- A call that goes from leaf to leaf, and acts on the targets there.
-use Rattle.std.proofs.Common.{◌≡◌, ℕ, zero, suc, ◌+◌, ◌<◌, ◌≤◌, ◌^◌, List, [], ◌∷◌, ◌++◌, length, take, map, Result, Ok, Err, refl, ap, sym, ◌∙◌, subst, arith, length-append, inl, inr}
+use Rattle.std.proofs.Common.{◌≡◌, ℕ, zero, suc, ◌+◌, ◌<◌, ◌≤◌, ◌^◌, List, [], ◌∷◌, ◌++◌, length, take, drop, map, Result, Ok, Err, refl, ap, sym, ◌∙◌, subst, arith, length-append, inl, inr}
 use Rattle.std.specs.List.{FoldsTo}
 use Rattle.std.specs.Result.{result_map_both}
 use Rattle.std.proofs.Math.Seq.{take-append-add, take-length}
-use Rattle.std.proofs.lemmas.List.{take-append-le, length-set}
+use Rattle.std.proofs.lemmas.List.{take-append-le, take_all}
 use mathlib.Core.Path.{fun_ext}
 use Rattle.metrics_names.specs.declared.kind.MetricKind.{MetricKind}
 use Rattle.metrics_names.specs.declared.refused.Refused.{Refused}
@@ -17,12 +17,13 @@ use Rattle.metrics.specs.Meaning.{Meaning, KeepsTargets, Acts}
 use Rattle.metrics.specs.Layers.{joined_all, targets_of}
 use Rattle.metrics_rules.specs.declared.visitor.Stopped.{Stopped}
 use Rattle.metrics_rules.specs.Visits.{key_at, shown, StopsAt, Visits}
-use Rattle.metrics_trees.specs.Calls.{Calls}
+use Rattle.metrics_trees.specs.Calls.{Calls, Stay}
 use Rattle.metrics_trees.specs.Recorders.{books_of, books_in, most_books, spread}
 use Rattle.metrics_trees.specs.Over.{over}
 use Rattle.metrics_trees.specs.Visiting.{Acting, IsAdded, Acted, Accepts, Rejects, IsEnd}
 use Rattle.metrics_rules.proofs.OneChildLemmas.{front, rest, before, by_parts, targets-one}
-use Rattle.metrics_trees.proofs.JoinedLemmas.{acts_within, same_spread}
+use Rattle.metrics_trees.proofs.JoinedLemmas.{acts_within}
+use Rattle.metrics_trees.proofs.OneChildLemmas.{stay-called}
 
 -- the same for what is made of the result
 pub ends-mapped : {T U : Type 0} (h : T → U) (q : Result ℕ Stopped) (t : T) (acted : ℕ) (r : Result T Refused) → IsEnd q t acted r → IsEnd q (h t) acted (result_map_both h (λ e. e) r)
@@ -37,21 +38,19 @@ contents_in m bs = (joined_all (map m bs)).contents
 -- recorders acted on these targets in their books
 pub record Did {B : Type 0} (m : B → Meaning) (f : List ℕ → Content → Content) (us : List (ℕ × List ℕ)) (was now : List B) : Type 0 where
   pub contents : contents_in m now ≡ after_targets f us (contents_in m was)
-  pub same : (q : MetricKind) (ts : List (ℕ × List ℕ)) → spread (map m now) q ts ≡ spread (map m was) q ts
-  pub count : length now ≡ length was
+  pub stay : Stay m was now
 
 module _ {B : Type 0} (m : B → Meaning) (labels : List (List ℕ × List ℕ)) (kind : MetricKind) (step : List (List ℕ × List ℕ) → List ℕ → Content → Content) where
   abbrev f : List ℕ → Content → Content
   f = step labels
 
   did-none : (bs : List B) → Did m f [] bs bs
-  did-none bs = record { contents = refl; same = λ q ts. refl; count = refl }
+  did-none bs = record { contents = refl; stay = record { count = refl; books = refl; same = λ q ts. refl } }
 
   did-more : (us vs : List (ℕ × List ℕ)) (was mid now : List B) → Did m f us was mid → Did m f vs mid now → Did m f (us ++ vs) was now
   did-more us vs was mid now h g = record {
     contents = g.contents ∙ ap (after_targets f vs) h.contents ∙ sym (after_targets-append f us vs (contents_in m was));
-    same = λ q ts. g.same q ts ∙ h.same q ts;
-    count = g.count ∙ h.count;
+    stay = record { count = g.stay.count ∙ h.stay.count; books = g.stay.books ∙ h.stay.books; same = λ q ts. g.stay.same q ts ∙ h.stay.same q ts };
   }
 
   -- ---- one target
@@ -66,16 +65,14 @@ module _ {B : Type 0} (m : B → Meaning) (labels : List (List ℕ × List ℕ))
     did-first c n le h =
         let x = c.before in
         let ts = (m x).targets kind t.1 in
-        let at = targets-one m was t.0 x c.within c.at kind t.1 in
-        let books = ap length h ∙ length-after_targets f (take n ts) (m x).contents in (
+        let at = targets-one m was t.0 x c.within c.at kind t.1 in (
           omega (arith, le, ap length at ∙ length-raise _ ts),
           record {
             contents =
                 ap (contents_in m) c.is ∙ by_parts m was t.0 x c.within c.at c.after (λ old new. (joined_all new).contents ≡ after_targets f (raise (before m was t.0 x c.within c.at) (take n ts)) (joined_all old).contents)
                 (acts_within f (front m was t.0 x c.within c.at) (rest m was t.0 x c.within c.at) (m x) (m c.after) (take n ts) (below_take (books_of (m x)) n ts ((m x).below kind t.1)) h)
                 ∙ ap (λ us. after_targets f us (contents_in m was)) (sym (ap (take n) at ∙ take-raise _ n ts));
-            same = λ q us. ap (λ bs. spread (map m bs) q us) c.is ∙ by_parts m was t.0 x c.within c.at c.after (λ old new. spread new q us ≡ spread old q us) (same_spread (front m was t.0 x c.within c.at) (rest m was t.0 x c.within c.at) (m x) (m c.after) c.keeps books q us);
-            count = ap length c.is ∙ length-set was t.0 c.after;
+            stay = stay-called m t.0 c (ap length h ∙ length-after_targets f (take n ts) (m x).contents);
           },
         )
 
@@ -116,17 +113,18 @@ module _ {B : Type 0} (m : B → Meaning) (labels : List (List ℕ × List ℕ))
   one : (t : ℕ × List ℕ) (v w : Acting B) (q : Result ℕ Refused) (r : Result (Unit {0}) Refused) →
       Calls m t.0 v.recorders w.recorders (λ a c. Acts f (a.targets kind t.1) a c q (λ count. count ≡ length (a.targets kind t.1))) → IsAdded v.acted w.acted q r →
       Ended (targets_of t.0 (map m v.recorders) kind t.1) v w r
-  one t v w (Ok count) r c a =
+  one t v w (Ok count) (Ok done) c a =
       let us = targets_of t.0 (map m v.recorders) kind t.1 in
       let ts = (m c.before).targets kind t.1 in
       let at = ap length (targets-one m v.recorders t.0 c.before c.within c.at kind t.1) ∙ length-raise _ ts in
-      let all : count ≡ length us = c.called.0 ∙ sym at in
       let d = did-first t v.recorders w.recorders c (length ts) (omega arith) (c.called.1 ∙ ap (λ us. after_targets f us (m c.before).contents) (sym (take-length ts))) in
-      by_result r a all (subst (λ i. Did m f (take i us) v.recorders w.recorders) (sym at) d.1)
-    where
-      by_result : (r : Result (Unit {0}) Refused) → IsAdded v.acted w.acted (Ok count) r → let us = targets_of t.0 (map m v.recorders) kind t.1 in count ≡ length us → Did m f (take (length us) us) v.recorders w.recorders → Ended us v w r
-      by_result (Ok done) a all d = (rw (take-length (targets_of t.0 (map m v.recorders) kind t.1)) at d, λ lt. a (omega (arith, lt, all)) ∙ ap (λ i. v.acted + i) all)
-      by_result (Err e) a all d = (count, count, a.0, omega (arith, all), rw (sym all) at d, λ lt. ap (λ i. i + count) a.1)
+      let all : count ≡ length us = c.called.0 ∙ sym at in
+      (subst (λ us. Did m f us v.recorders w.recorders) (ap (λ i. take i us) (sym at) ∙ take-length us) d.1, λ lt. a (omega (arith, lt, all)) ∙ ap (λ i. v.acted + i) all)
+  one t v w (Ok count) (Err e) c a =
+      let ts = (m c.before).targets kind t.1 in
+      let all = take_all count ts (omega (arith, c.called.0)) in
+      let d = did-first t v.recorders w.recorders c count (omega (arith, c.called.0)) (c.called.1 ∙ ap (λ us. after_targets f us (m c.before).contents) (sym all)) in
+      (count, count, a.0, d.0, d.1, λ lt. ap (λ k. k + count) a.1)
   one t v w (Err (Memory i)) (Err e) c a =
       let d = did-first t v.recorders w.recorders c i c.called.0 c.called.1 in
       (i, i, a.0, d.0, d.1, λ lt. ap (λ k. k + i) a.1)
@@ -164,22 +162,18 @@ module _ {B : Type 0} (m : B → Meaning) (labels : List (List ℕ × List ℕ))
       went-on v t x ts w r k h rest =
           let s = went-one v t x k h in
           ended-more (targets_of t.0 (map m (st v).recorders) kind t.1) (spread (map m (st v).recorders) kind ts) (st v) (st x) (st w) r s.1
-          (subst (λ us. Ended us (st x) (st w) r) (s.1.0.same kind ts) (rest s.0 s.1.0.count))
+          (subst (λ us. Ended us (st x) (st w) r) (s.1.0.stay.same kind ts) (rest s.0 s.1.0.stay.count))
 
       went-all : (v : V) (ts : List (ℕ × List ℕ)) (w : V) → IsAt v → FoldsTo (shown accepts labels) v ts w → At v ts w (Ok tt)
       went-all v [] w k p = subst (λ (u : V). Ended [] (st v) (st u) (Ok tt)) p (did-none (st v).recorders, λ lt. omega arith)
       went-all v (t ∷ ts) w k p = went-on v t p.0 ts w (Ok tt) k p.1 (λ q n. went-all p.0 ts w q p.2)
 
-      went-part : (v : V) (ts : List (ℕ × List ℕ)) (j : ℕ) (u w : V) (e : Refused) → IsAt v → AllBelow (length (st v).recorders) ts →
-          FoldsTo (shown accepts labels) v (take j ts) u → StopsAt refuses labels ts j u e w → At v ts w (Err e)
-      went-part v [] j u w e k b p (inl (x, is, h)) = absurd (cc)
-      went-part v [] zero u w e k b p (inr s) = idle _ (st v) (st w) e (ap st (s.0 ∙ sym p)) s.1
-      went-part v [] (suc j) u w e k b p (inr s) = idle _ (st v) (st w) e (ap st (s.0 ∙ sym p)) s.1
-      went-part v (t ∷ ts) zero u w e k b p (inr s) = idle _ (st v) (st w) e (ap st (s.0 ∙ sym p)) s.1
-      went-part v (t ∷ ts) zero u w e k b p (inl (x, is, h)) =
+      stopped : (v : V) (ts : List (ℕ × List ℕ)) (w : V) (e : Refused) → IsAt v → AllBelow (length (st v).recorders) ts → StopsAt refuses labels ts v e w → At v ts w (Err e)
+      stopped v ts w e k b (inr s) = idle _ (st v) (st w) e (ap st s.0) s.1
+      stopped v [] w e k b (inl (x, more, is, h)) = absurd (cc)
+      stopped v (t ∷ ts) w e k b (inl (x, more, is, h)) =
           let same : x ≡ t = cc in
-          let r = subst (λ (y : V). refuses y t.0 (key_at labels t) e w) (sym p) (subst (λ (y : ℕ × List ℕ). refuses u y.0 (key_at labels y) e w) same h) in
-          rejected (loses v t.0 (key_at labels t) e w r)
+          rejected (loses v t.0 (key_at labels t) e w (subst (λ (y : ℕ × List ℕ). refuses v y.0 (key_at labels y) e w) same h))
         where
           rejected : Rejects m t.0 (key_at labels t) e (st v) (st w) → At v (t ∷ ts) w (Err e)
           rejected (inl out) = absurd (omega (arith, out.0, b.0))
@@ -190,6 +184,11 @@ module _ {B : Type 0} (m : B → Meaning) (labels : List (List ℕ × List ℕ))
               let Z = spread (map m (st v).recorders) kind ts in
               let l = length-append Y Z in
               (n, last, is, omega (arith, le, l), subst (λ us. Did m f us (st v).recorders (st w).recorders) (sym (take-append-le n Y Z le)) did, λ lt. at (omega (arith, lt, l)))
+
+      went-part : (v : V) (ts : List (ℕ × List ℕ)) (j : ℕ) (u w : V) (e : Refused) → IsAt v → AllBelow (length (st v).recorders) ts →
+          FoldsTo (shown accepts labels) v (take j ts) u → StopsAt refuses labels (drop j ts) u e w → At v ts w (Err e)
+      went-part v ts zero u w e k b p s = stopped v ts w e k b (subst (λ (u : V). StopsAt refuses labels ts u e w) (sym p) s)
+      went-part v [] (suc j) u w e k b p s = stopped v [] w e k b (subst (λ (u : V). StopsAt refuses labels [] u e w) (sym p) s)
       went-part v (t ∷ ts) (suc j) u w e k b p s =
           went-on v t p.0 ts w (Err e) k p.1 (λ q n. went-part p.0 ts j u w e q (subst (λ i. AllBelow i ts) (sym n) b.1) p.2 s)
 
@@ -211,14 +210,14 @@ module _ {B : Type 0} (m : B → Meaning) (labels : List (List ℕ × List ℕ))
             omega (arith, l, most, none)
 
         keeps : {us : List (ℕ × List ℕ)} → Did m f us (st v).recorders (st w).recorders → KeepsTargets old new
-        keeps h = fun_ext (λ q. fun_ext (λ n. h.same q (R.targets q n)))
+        keeps h = fun_ext (λ q. fun_ext (λ n. h.stay.same q (R.targets q n)))
 
         failed : (s : Stopped) → Visits accepts refuses labels v ts w (Err s) → At v ts w (Err s.refused)
         failed s p = went-part v ts s.accepted p.last w s.refused k (subst (λ n. AllBelow n ts) leaves (R.below kind name)) p.accepted p.stops
 
         pub counted : (q : Result ℕ Stopped) → Visits accepts refuses labels v ts w q → length (st w).recorders ≡ length (st v).recorders
-        counted (Ok n) p = (went-all v ts w k p.1).0.count
-        counted (Err s) p = (failed s p).4.count
+        counted (Ok n) p = (went-all v ts w k p.1).0.stay.count
+        counted (Err s) p = (failed s p).4.stay.count
 
         -- however it ended
         pub answered : {T : Type 0} (P : T → Type 0) (done : T) → (FoldsTo (shown accepts labels) v ts w → (st w).acted ≡ length (old.targets kind name) → P done) → (q : Result ℕ Stopped) (r : Result T Refused) →

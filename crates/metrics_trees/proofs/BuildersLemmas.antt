@@ -14,7 +14,7 @@ use Rattle.metrics_trees.specs.declared.leaves.Leaves.{Leaves}
 use Rattle.metrics_trees.specs.declared.child.Child.{Child}
 use Rattle.metrics_trees.specs.Recorders.{books_in, most_books, BooksFit}
 use Rattle.metrics_trees.specs.Over.{over, overs}
-use Rattle.metrics_rules.proofs.JoinedLemmas.{leaves-append, leaves-one}
+use Rattle.metrics_rules.proofs.JoinedLemmas.{leaves-one}
 use Rattle.metrics_trees.proofs.OverLemmas.{overs-more, books-over}
 
 pub length-overs : (rs ms : List Meaning) → length (overs rs ms) ≡ length rs
@@ -47,7 +47,6 @@ module _ {B : Type 0} {r : recorder.Ghosts B} (rs : List Meaning) (leaves : Leav
   -- one recorder more
   pub record Gains (now : List Meaning) (after : List B) : Type 0 where
     pub as_many : leaves_in now ≡ length after
-    pub few : books_in (map r.meaning after) ≤ most_books
     pub fit : BooksFit (overs rs bs) one
     pub gained : overs now (map r.meaning after) ≡ overs rs bs ++ one ∷ []
 
@@ -55,12 +54,10 @@ module _ {B : Type 0} {r : recorder.Ghosts B} (rs : List Meaning) (leaves : Leav
   gains few now mid after g room moved =
       let to = moved ∙ ap (λ xs. xs ++ recorders_of given.below.registrar.leaves) room in
       let ms = ap (map r.meaning) to ∙ map-append r.meaning (recorders_of leaves) (recorders_of given.below.registrar.leaves) in
-      let b = ap books_in ms ∙ leaves-append bs cs in
       let l = ap leaves_in g ∙ leaves-one rs (rules_meaning given.rules) in
       let n = ap length to ∙ length-append (recorders_of leaves) (recorders_of given.below.registrar.leaves) in
       record {
         as_many = omega (arith, l, n, many, given.as_many);
-        few = omega (arith, b, few);
         fit = subst (λ k. k + books_in cs ≤ most_books) (sym (books-over rs bs as-many)) few;
         gained =
             ap (λ qs. overs qs (map r.meaning after)) g ∙ ap (overs (rs ++ rules_meaning given.rules ∷ [])) ms

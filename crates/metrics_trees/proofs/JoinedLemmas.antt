@@ -3,7 +3,6 @@ use Rattle.std.proofs.Common.{◌≡◌, ℕ, zero, suc, ◌+◌, ◌<◌, ◌�
 use Rattle.std.specs.List.{All}
 use Rattle.std.proofs.lemmas.List.Elements.{All-nil, All-cons}
 use Rattle.std.proofs.lemmas.Bool.Decides.{nat_tests}
-use mathlib.Core.Path.{fun_ext}
 use Rattle.metrics_names.specs.declared.kind.MetricKind.{MetricKind}
 use Rattle.metrics.specs.declared.debugging.Reset.{Reset}
 use Rattle.metrics.specs.declared.handles.Update.{Update}
@@ -18,7 +17,6 @@ use Rattle.metrics_rules.proofs.JoinedLemmas.{contents-append}
 pub use Rattle.metrics_rules.proofs.JoinedLemmas.{leaves-append, leaves-one}
 use Rattle.metrics_trees.specs.Places.{raised}
 use Rattle.metrics_trees.specs.Recorders.{books_of, spread}
-use Rattle.metrics_trees.specs.Over.{over}
 
 -- ---- another recorder in one's place, of the same targets and as many books
 
@@ -35,10 +33,6 @@ same_spread front rest x y k l kind [] = refl
 same_spread front rest x y k l kind (t ∷ ts) =
     ap (λ us. us ++ spread (front ++ y ∷ rest) kind ts) (same_chosen front rest x y k l t.0 kind t.1)
     ∙ ap (λ us. targets_of t.0 (front ++ x ∷ rest) kind t.1 ++ us) (same_spread front rest x y k l kind ts)
-
-pub same_over : (R : Meaning) (front rest : List Meaning) (x y : Meaning) → KeepsTargets x y → books_of y ≡ books_of x →
-    (over R (front ++ y ∷ rest)).targets ≡ (over R (front ++ x ∷ rest)).targets
-same_over R front rest x y k l = fun_ext (λ kind. fun_ext (λ name. same_spread front rest x y k l kind (R.targets kind name)))
 
 -- ---- calls on the targets of one
 
@@ -118,41 +112,27 @@ module _ (front rest : List Meaning) (x : Meaning) (b : ℕ) (lt : b < books_of 
   snapshots-one y reset (Err BadHandle) h = absurd h
 
 -- no series is at a number that no book has
-pub holds-past : (kind : MetricKind) (b s : ℕ) (cs : List Content) → length cs ≤ b → holds_at kind (record { book = b; series = s }) cs ≡ false
-holds-past kind b s cs le = ap (λ q. is_kind kind (kind_at s (content_at b cs)) && q) (not_less b (length cs) le) ∙ never (is_kind kind (kind_at s (content_at b cs)))
+pub holds_none : (kind : MetricKind) (b s : ℕ) (cs : List Content) → length cs ≤ b → false ≡ holds_at kind (record { book = b; series = s }) cs
+holds_none kind b s cs le = never (is_kind kind (kind_at s (content_at b cs))) (not_less b (length cs) le)
   where
     not_less : (a b : ℕ) → b ≤ a → nat_lt a b ≡ false
     not_less a b l = grind (arith, nat_tests)
 
-    never : (q : Bool) → (q && false) ≡ false
-    never true = refl
-    never false = refl
+    never : (p : Bool) {q : Bool} → q ≡ false → false ≡ (p && q)
+    never true e = sym e
+    never false e = refl
 
 -- ---- addresses
 
 module _ (kind : MetricKind) (labels : List (List ℕ × List ℕ)) where
-  addresses-front : (ts : List (ℕ × List ℕ)) (cs ds : List Content) → AllBelow (length cs) ts → addresses kind labels ts (cs ++ ds) ≡ addresses kind labels ts cs
-  addresses-front [] cs ds b = refl
-  addresses-front (t ∷ ts) cs ds b =
-      ap (λ c. record { book = t.0; series = place (key_in_book kind labels t.1) c } ∷ addresses kind labels ts (cs ++ ds)) (content_at-front t.0 cs ds b.0)
-      ∙ ap (λ as'. record { book = t.0; series = place (key_in_book kind labels t.1) (content_at t.0 cs) } ∷ as') (addresses-front ts cs ds b.1)
-
-  addresses-past : (ts : List (ℕ × List ℕ)) (cs ds : List Content) → addresses kind labels (raise (length cs) ts) (cs ++ ds) ≡ raised (length cs) (addresses kind labels ts ds)
-  addresses-past [] cs ds = refl
-  addresses-past (t ∷ ts) cs ds =
-      ap (λ c. record { book = length cs + t.0; series = place (key_in_book kind labels t.1) c } ∷ addresses kind labels (raise (length cs) ts) (cs ++ ds)) (content_at-past t.0 cs ds)
-      ∙ ap (λ as'. record { book = length cs + t.0; series = place (key_in_book kind labels t.1) (content_at t.0 ds) } ∷ as') (addresses-past ts cs ds)
-
   -- the addresses in one recorder's targets, raised, are those among all
-  pub addresses-one : (front rest : List Meaning) (x : Meaning) (name : List ℕ) →
-      raised (books_of (joined_all front)) (addresses kind labels (x.targets kind name) x.contents)
-      ≡ addresses kind labels (raise (books_of (joined_all front)) (x.targets kind name)) (joined_all (front ++ x ∷ rest)).contents
-  addresses-one front rest x name =
-      let fs = (joined_all front).contents in
-      let ts = x.targets kind name in
-      ap (raised (length fs)) (sym (addresses-front ts x.contents (joined_all rest).contents (x.below kind name)))
-      ∙ sym (addresses-past ts fs (x.contents ++ (joined_all rest).contents))
-      ∙ ap (addresses kind labels (raise (length fs) ts)) (sym (contents-append front (x ∷ rest)))
+  pub addresses-one : (front rest : List Meaning) (x : Meaning) (ts : List (ℕ × List ℕ)) → AllBelow (books_of x) ts →
+      raised (books_of (joined_all front)) (addresses kind labels ts x.contents) ≡ addresses kind labels (raise (books_of (joined_all front)) ts) (joined_all (front ++ x ∷ rest)).contents
+  addresses-one front rest x [] b = refl
+  addresses-one front rest x (t ∷ ts) b =
+      let k = books_of (joined_all front) in
+      ap (λ c. record { book = k + t.0; series = place (key_in_book kind labels t.1) c } ∷ raised k (addresses kind labels ts x.contents)) (sym (content-there front rest x t.0 b.0))
+      ∙ ap (λ as'. address_in kind labels (joined_all (front ++ x ∷ rest)).contents (k + t.0, t.1) ∷ as') (addresses-one front rest x ts b.1)
 
   -- each address is in a book
   pub addresses-below : (ts : List (ℕ × List ℕ)) (cs : List Content) (n : ℕ) → AllBelow n ts → All (λ a. a.book < n) (addresses kind labels ts cs)

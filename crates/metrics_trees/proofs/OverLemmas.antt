@@ -1,6 +1,7 @@
 -- Recorders under rules, by what the rules were made of.
-use Rattle.std.proofs.Common.{if◌then◌else◌, ◌≡◌, ℕ, zero, suc, ◌<◌, ◌≤◌, Bool, true, false, List, [], ◌∷◌, ◌++◌, length, map, take, drop, refl, ap, sym, ◌∙◌, subst, arith, append-nil, append_assoc, length-append}
-use Rattle.std.proofs.lemmas.List.{take-append-drop, take-append-le, drop-append-le, length-take-le, length-map}
+use Rattle.std.proofs.Common.{if◌then◌else◌, ◌≡◌, ℕ, zero, suc, ◌<◌, ◌≤◌, Bool, true, false, List, [], ◌∷◌, ◌++◌, length, map, take, drop, refl, ap, sym, ◌∙◌, subst, arith, append-nil, length-append}
+use Rattle.std.proofs.lemmas.List.{take-append-drop, take-append-le, drop-append-le, length-take-le, length-map, nil_from_length}
+use Rattle.std.proofs.lemmas.List.Concat.{flat_map-append}
 use Rattle.std.proofs.Math.Seq.{take-length}
 use mathlib.Core.Path.{fun_ext}
 use Rattle.metrics_names.specs.declared.kind.MetricKind.{MetricKind}
@@ -15,16 +16,9 @@ use Rattle.metrics_trees.specs.Recorders.{books_in, spread}
 use Rattle.metrics_trees.specs.Over.{over, overs}
 use Rattle.metrics_rules.proofs.JoinedLemmas.{contents-append, targets_of-past}
 
-spread-append : (all : List Meaning) (kind : MetricKind) (ts us : List (ℕ × List ℕ)) → spread all kind (ts ++ us) ≡ spread all kind ts ++ spread all kind us
-spread-append all kind [] us = refl
-spread-append all kind (t ∷ ts) us =
-    ap (λ vs. targets_of t.0 all kind t.1 ++ vs) (spread-append all kind ts us) ∙ sym (append_assoc (targets_of t.0 all kind t.1) (spread all kind ts) (spread all kind us))
-
 -- one leaf means its recorder
 pub over_leaf : (a : Meaning) → over (one_book new_book) (a ∷ []) ≡ a
-over_leaf a =
-    let o = over (one_book new_book) (a ∷ []) in
-    sym (same_meaning a o.contents o.targets (sym (append-nil a.contents)) (fun_ext (λ kind. fun_ext (λ name. sym (append-nil (a.targets kind name))))) o.below o.distinct)
+over_leaf a = same_meaning (over (one_book new_book) (a ∷ [])) a (append-nil a.contents) (fun_ext (λ kind. fun_ext (λ name. append-nil (a.targets kind name))))
 
 spread-unless : (all : List Meaning) (kind : MetricKind) (b : Bool) (ts : List (ℕ × List ℕ)) → spread all kind (if b then [] else ts) ≡ (if b then [] else spread all kind ts)
 spread-unless all kind true ts = refl
@@ -32,9 +26,8 @@ spread-unless all kind false ts = refl
 
 pub over_filtered : (fold : Bool) (patterns : List (List ℕ)) (rules : Meaning) (all : List Meaning) → over (filtered fold patterns rules) all ≡ filtered fold patterns (over rules all)
 over_filtered fold patterns rules all =
-    let f = filtered fold patterns (over rules all) in
-    same_meaning (over (filtered fold patterns rules) all) f.contents f.targets refl
-    (fun_ext (λ kind. fun_ext (λ name. spread-unless all kind (matches fold patterns name) (rules.targets kind name)))) f.below f.distinct
+    same_meaning (over (filtered fold patterns rules) all) (filtered fold patterns (over rules all)) refl
+    (fun_ext (λ kind. fun_ext (λ name. spread-unless all kind (matches fold patterns name) (rules.targets kind name))))
 
 -- ---- rules side by side
 
@@ -56,12 +49,11 @@ spread-past xs ys kind (t ∷ ts) =
 
 over-joined : (a b : Meaning) (xs ys : List Meaning) → length xs ≡ leaves_of a → over (joined a b) (xs ++ ys) ≡ joined (over a xs) (over b ys)
 over-joined a b xs ys l =
-    let j = joined (over a xs) (over b ys) in
-    same_meaning (over (joined a b) (xs ++ ys)) j.contents j.targets (contents-append xs ys)
+    same_meaning (over (joined a b) (xs ++ ys)) (joined (over a xs) (over b ys)) (contents-append xs ys)
     (fun_ext (λ kind. fun_ext (λ name.
-    spread-append (xs ++ ys) kind (a.targets kind name) (raise (leaves_of a) (b.targets kind name))
+    flat_map-append (λ (t : ℕ × List ℕ). targets_of t.0 (xs ++ ys) kind t.1) (a.targets kind name) (raise (leaves_of a) (b.targets kind name))
     ∙ ap (λ us. us ++ spread (xs ++ ys) kind (raise (leaves_of a) (b.targets kind name))) (spread-front xs ys kind (a.targets kind name) (subst (λ k. AllBelow k (a.targets kind name)) (sym l) (a.below kind name)))
-    ∙ ap (λ us. spread xs kind (a.targets kind name) ++ us) (ap (λ k. spread (xs ++ ys) kind (raise k (b.targets kind name))) (sym l) ∙ spread-past xs ys kind (b.targets kind name))))) j.below j.distinct
+    ∙ ap (λ us. spread xs kind (a.targets kind name) ++ us) (ap (λ k. spread (xs ++ ys) kind (raise k (b.targets kind name))) (sym l) ∙ spread-past xs ys kind (b.targets kind name)))))
 
 -- the number of leaves of the first rules, and of the others
 leaves-first : (r : Meaning) (rs ms : List Meaning) → length ms ≡ leaves_in (r ∷ rs) → (leaves_of r ≤ length ms) × (length (take (leaves_of r) ms) ≡ leaves_of r) × (length (drop (leaves_of r) ms) ≡ leaves_in rs)
@@ -73,14 +65,10 @@ leaves-first r rs ms l =
     (le, t, omega (arith, l, s, t, d))
 
 pub over_nothing : over nothing [] ≡ nothing
-over_nothing = same_meaning (over nothing []) [] (λ kind name. []) refl refl (λ kind name. tt) (λ kind name. tt)
-
-none-left : (ms : List Meaning) → length ms ≡ 0 → over nothing ms ≡ nothing
-none-left [] l = over_nothing
-none-left (m ∷ ms) l = absurd (omega (arith, l))
+over_nothing = same_meaning (over nothing []) nothing refl refl
 
 pub over-all : (rs ms : List Meaning) → length ms ≡ leaves_in rs → over (joined_all rs) ms ≡ joined_all (overs rs ms)
-over-all [] ms l = none-left ms l
+over-all [] ms l = ap (over nothing) (nil_from_length ms l) ∙ over_nothing
 over-all (r ∷ rs) ms l =
     let n = leaves_of r in
     let f = leaves-first r rs ms l in
@@ -107,17 +95,12 @@ spread-chosen (r ∷ rs) ms l kind name (suc w) =
 
 pub over-chosen : (number : MetricKind → List ℕ → ℕ) (rs ms : List Meaning) → length ms ≡ leaves_in rs → over (choosing number rs) ms ≡ choosing number (overs rs ms)
 over-chosen number rs ms l =
-    let c = choosing number (overs rs ms) in
-    same_meaning (over (choosing number rs) ms) c.contents c.targets (ap (λ (a : Meaning). a.contents) (over-all rs ms l))
-    (fun_ext (λ kind. fun_ext (λ name. spread-chosen rs ms l kind name (number kind name)))) c.below c.distinct
+    same_meaning (over (choosing number rs) ms) (choosing number (overs rs ms)) (ap (λ (a : Meaning). a.contents) (over-all rs ms l))
+    (fun_ext (λ kind. fun_ext (λ name. spread-chosen rs ms l kind name (number kind name))))
 
 -- one more
 pub overs-more : (rs : List Meaning) (r : Meaning) (ms ns : List Meaning) → length ms ≡ leaves_in rs → length ns ≡ leaves_of r → overs (rs ++ r ∷ []) (ms ++ ns) ≡ overs rs ms ++ over r ns ∷ []
-overs-more [] r ms ns l k = ap (λ xs. overs (r ∷ []) (xs ++ ns)) (none ms l) ∙ ap (λ xs. over r xs ∷ []) (ap (λ i. take i ns) (sym k) ∙ take-length ns)
-  where
-    none : (ms : List Meaning) → length ms ≡ 0 → ms ≡ []
-    none [] l = refl
-    none (m ∷ ms) l = absurd (omega (arith, l))
+overs-more [] r ms ns l k = ap (λ xs. overs (r ∷ []) (xs ++ ns)) (nil_from_length ms l) ∙ ap (λ xs. over r xs ∷ []) (ap (λ i. take i ns) (sym k) ∙ take-length ns)
 overs-more (q ∷ rs) r ms ns l k =
     let n = leaves_of q in
     let f = leaves-first q rs ms l in

@@ -61,32 +61,25 @@ module _ {B : Type 0} (m : B → Meaning) (leaf : ℕ) (key : KeyParts) (was now
       a ∙ ap (λ xs. found_by call ++ raised front xs) c.called.0
       ∙ ap (λ k. found_by call ++ raised k (addresses (kind_of call) key.labels ts (m c.before).contents)) at
       ∙ ap (λ xs. found_by call ++ xs)
-      (addresses-one (kind_of call) key.labels (first m was leaf c.before c.within c.at) (others m was leaf c.before c.within c.at) (m c.before) key.name
+      (addresses-one (kind_of call) key.labels (first m was leaf c.before c.within c.at) (others m was leaf c.before c.within c.at) (m c.before) ts ((m c.before).below (kind_of call) key.name)
       ∙ ap (λ all. addresses (kind_of call) key.labels (raise (start leaf (map m was)) ts) (joined_all all).contents) (sym (all_is m was leaf c.before c.within c.at))
       ∙ ap (λ us. addresses (kind_of call) key.labels us (contents_in m was)) (sym (targets-one m was leaf c.before c.within c.at (kind_of call) key.name)))
 
-  pub asked : (kind : MetricKind) → kind_of call ≡ kind → (answer : Result (List Address) Refused) → Calls m leaf was now (λ a c. Registers a c kind key answer) → (r : Result (Unit {0}) Refused) →
-      IsAppended (found_by call) (found_by next) front answer r →
-      MatchResult r (λ done. Accepts m leaf key (registering call was) (registering next now) × (found_by next ≡ found_by call ++ addresses_at m was leaf (kind_of call) key)) (λ e. Rejects m leaf key e (registering call was) (registering next now))
-  asked kind e answer calls r a = by_result r a (acted r a)
-    where
-      c : Calls m leaf was now (λ a c. Registers a c (kind_of call) key answer)
-      c = subst (λ q. Calls m leaf was now (λ a c. Registers a c q key answer)) (sym e) calls
+  module _ (kind : MetricKind) (e : kind_of call ≡ kind) (answer : Result (List Address) Refused) (calls : Calls m leaf was now (λ a c. Registers a c kind key answer)) where
+    c : Calls m leaf was now (λ a c. Registers a c (kind_of call) key answer)
+    c = subst (λ q. Calls m leaf was now (λ a c. Registers a c q key answer)) (sym e) calls
 
-      acted : (r : Result (Unit {0}) Refused) → IsAppended (found_by call) (found_by next) front answer r → Acted m leaf key (registering call was) (registering next now) r
-      acted r a = record {
-        answer = count_of answer;
-        calls = record { before = c.before; after = c.after; within = c.within; at = c.at; is = c.is; keeps = c.keeps; called = registers-counted (m c.before) (m c.after) (kind_of call) key answer c.called };
-        added = added (found_by call) (found_by next) front answer r a;
-      }
+    acted : (r : Result (Unit {0}) Refused) → IsAppended (found_by call) (found_by next) front answer r → Acted m leaf key (registering call was) (registering next now) r
+    acted r a = record {
+      answer = count_of answer;
+      calls = record { before = c.before; after = c.after; within = c.within; at = c.at; is = c.is; keeps = c.keeps; called = registers-counted (m c.before) (m c.after) (kind_of call) key answer c.called };
+      added = added (found_by call) (found_by next) front answer r a;
+    }
 
-      by_result : (r : Result (Unit {0}) Refused) → IsAppended (found_by call) (found_by next) front answer r → Acted m leaf key (registering call was) (registering next now) r →
-          MatchResult r (λ done. Accepts m leaf key (registering call was) (registering next now) × (found_by next ≡ found_by call ++ addresses_at m was leaf (kind_of call) key)) (λ e. Rejects m leaf key e (registering call was) (registering next now))
-      by_result (Ok done) a h = ((same, ap registers' same, h), found_there answer c a)
-        where
-          registers' : MetricKind → List (List ℕ × List ℕ) → List ℕ → Content → Content
-          registers' = registers
-      by_result (Err d) a h = inr (inr h)
+    pub asked : (r : Result (Unit {0}) Refused) → IsAppended (found_by call) (found_by next) front answer r →
+        MatchResult r (λ done. Accepts m leaf key (registering call was) (registering next now) × (found_by next ≡ found_by call ++ addresses_at m was leaf (kind_of call) key)) (λ e. Rejects m leaf key e (registering call was) (registering next now))
+    asked (Ok done) a = ((same, ap registers same, acted (Ok done) a), found_there answer c a)
+    asked (Err d) a = inr (inr (acted (Err d) a))
 
 -- ---- what acting on some targets leaves
 
@@ -131,7 +124,7 @@ module _ {B : Type 0} (m : B → Meaning) (labels : List (List ℕ × List ℕ))
       let at = λ (us : List (ℕ × List ℕ)) (cs : List Content). addresses kind labels us cs in
       let found = (gains v t.0 (key_at labels t) p.0 p.1).1 ∙ ap (λ q. fd v ++ addresses_at m bs t.0 q (key_at labels t)) k.0 in
       found-all p.0 ts w one.0 d.1 p.2
-      ∙ ap (λ us. fd p.0 ++ at us (contents_in m (st p.0).recorders)) (one.1.0.same kind ts)
+      ∙ ap (λ us. fd p.0 ++ at us (contents_in m (st p.0).recorders)) (one.1.0.stay.same kind ts)
       ∙ ap (λ cs. fd p.0 ++ at Z cs) one.1.0.contents
       ∙ ap (λ xs. fd p.0 ++ xs) (addresses-stay kind labels (step labels) Y Z (contents_in m bs) (distinct_spread (map m bs) kind (t ∷ ts) d))
       ∙ ap (λ xs. xs ++ at Z (contents_in m bs)) found

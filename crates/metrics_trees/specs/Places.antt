@@ -1,6 +1,7 @@
 -- Where the books of several recorders are, each recorder's after those before it.
 use Rattle.std.specs.Prelude.{◌≡◌, ℕ, ◌+◌, ◌<◌, ◌≤◌, List, ◌++◌, length, map, get_or, Result, Ok, Err}
 use Rattle.std.specs.List.{All}
+use Rattle.std.specs.List.Sorted.{IsNonDecreasing}
 use Rattle.metrics.specs.Meaning.{Meaning}
 use Rattle.metrics.specs.declared.handles.Address.{Address}
 use Rattle.metrics_names.specs.declared.refused.Refused.{Refused}
@@ -11,7 +12,7 @@ use Rattle.metrics_trees.specs.Recorders.{start}
 pub record Ascends (starts : List ℕ) : Type 0 where
   pub some : 0 < length starts
   pub first : get_or starts 0 0 ≡ 0
-  pub rise : (i j : ℕ) → i ≤ j → j < length starts → get_or starts i 0 ≤ get_or starts j 0
+  pub rise : IsNonDecreasing starts
 
 -- the last of them that is at most a number, by place
 pub record IsLast (starts : List ℕ) (book n : ℕ) : Type 0 where

@@ -1,5 +1,6 @@
 -- Recorders by number: their books, their targets, and when adding one fails.
-use Rattle.std.specs.Prelude.{if◌then◌else◌, ℕ, ◌+◌, ◌≤◌, nat_eq, nat_le, List, [], ◌∷◌, ◌++◌, length, take}
+use Rattle.std.specs.Prelude.{if◌then◌else◌, ℕ, ◌+◌, ◌≤◌, nat_eq, nat_le, List, length, take}
+use Rattle.std.specs.List.{flat_map}
 use Rattle.metrics_names.specs.declared.kind.MetricKind.{MetricKind}
 use Rattle.metrics.specs.Meaning.{Meaning}
 use Rattle.metrics.specs.Layers.{joined_all, targets_of}
@@ -26,8 +27,7 @@ start w all = books_in (take w all)
 
 -- the targets in the recorders at these leaves, each at its name there
 abbrev pub spread : List Meaning → MetricKind → List (ℕ × List ℕ) → List (ℕ × List ℕ)
-spread all kind [] = []
-spread all kind (t ∷ ts) = targets_of t.0 all kind t.1 ++ spread all kind ts
+spread all kind ts = flat_map (λ t. targets_of t.0 all kind t.1) ts
 
 -- with one recorder more there are few enough books
 abbrev pub BooksFit : List Meaning → Meaning → Type 0

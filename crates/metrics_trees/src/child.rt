@@ -1,5 +1,5 @@
 //! Trees of layers over leaves of one type.
-ghost use Rattle.std.specs.Prelude.{◌≡◌, ◌≤◌, None, length, map, unwrap_or, IsOk, MatchResult};
+ghost use Rattle.std.specs.Prelude.{◌≡◌, None, length, map, unwrap_or, IsOk, MatchResult};
 ghost use Rattle.metrics.specs.Layers.{prefixed, filtered};
 ghost use Rattle.metrics.specs.Meaning.{nothing};
 ghost use Rattle.metrics_layers.specs.Filters.{fault_of};
@@ -7,7 +7,7 @@ ghost use Rattle.metrics_rules.specs.Nodes.{leaves_of};
 ghost use Rattle.metrics_rules.specs.Meanings.{rules_meaning};
 ghost use Rattle.metrics_trees.specs.Leaves.{recorders_of};
 ghost use Rattle.metrics_trees.specs.Over.{over};
-ghost use Rattle.metrics_trees.specs.Recorders.{books_in, most_books, over_refusal};
+ghost use Rattle.metrics_trees.specs.Recorders.{over_refusal};
 ghost use Rattle.metrics.specs.declared.error.Error.TheVariants.{Memory};
 
 use crate::leaves::Leaves;
@@ -94,8 +94,6 @@ impl<B: Recorder> Child<B> {
     pub fn leaf(recorder: B) -> Child<B>
         ensures { ⟦<Child<B> as Recorder>⟧.meaning result ≡ B.meaning recorder }
     {
-        // This call brings in the trait's bound on the number of books.
-        let _books = recorder.books();
         Child {
             rules: Rules::leaf(),
             below: Below::new(Leaves::One(recorder)),
@@ -193,6 +191,8 @@ impl<B: Recorder> Recorder for Child<B> {
         let mut scratch = Scratch::new(alloc);
         let visited = self.rules.visit(kind, name, &mut scratch, &mut visitor);
         let Describing { leaves, acted, .. } = visitor;
+        // This call brings in the bound on the number of books.
+        let _books = leaves.books();
         self.below.registrar.leaves = leaves;
         ended(visited, acted, acted)
     }

@@ -1,10 +1,10 @@
 //! Recorders that each get each name.
-ghost use Rattle.std.specs.Prelude.{◌≡◌, ◌≤◌, ◌++◌, ◌∷◌, [], length, map, MatchResult};
+ghost use Rattle.std.specs.Prelude.{◌≡◌, ◌++◌, ◌∷◌, [], length, MatchResult};
 ghost use Rattle.metrics.specs.Layers.{joined_all};
 ghost use Rattle.metrics_rules.specs.Nodes.{leaves_in};
 ghost use Rattle.metrics_rules.specs.Builders.{fanout_branches};
 ghost use Rattle.metrics_trees.specs.Leaves.{recorders_of};
-ghost use Rattle.metrics_trees.specs.Recorders.{BooksFit, books_in, most_books, refusal};
+ghost use Rattle.metrics_trees.specs.Recorders.{BooksFit, refusal};
 
 use crate::child::{Child, Fanout};
 use crate::leaves::Leaves;
@@ -20,7 +20,6 @@ pub struct FanoutBuilder<B: Recorder> {
     rules: RulesBuilder,
     leaves: Leaves<B>,
     ghost as_many: { leaves_in (fanout_branches rules) ≡ length (recorders_of leaves) },
-    ghost few: { books_in (map B.meaning (recorders_of leaves)) ≤ most_books },
 }
 
 impl<B: Recorder> FanoutBuilder<B> {

@@ -1,11 +1,10 @@
 //! The recorders at the leaves of a tree.
 ghost use Rattle.std.specs.Prelude.{◌≡◌, ◌+◌, ◌<◌, ◌≤◌, ◌++◌, length, map, nat_lt, cond, MatchResult, OnOk};
 ghost use Rattle.std.specs.Result.{result_map_both};
-ghost use Rattle.metrics.specs.Meaning.{Meaning, KeepsTargets, Describes, Registers, Updates, Snapshots, holds_at};
+ghost use Rattle.metrics.specs.Meaning.{Describes, Registers, Updates, Snapshots, holds_at};
 ghost use Rattle.metrics.specs.Layers.{joined_all};
-ghost use Rattle.metrics_trees.specs.Calls.{Calls};
+ghost use Rattle.metrics_trees.specs.Calls.{Calls, Stay};
 ghost use Rattle.metrics_trees.specs.Leaves.{recorders_of, HasRoom};
-ghost use Rattle.metrics_trees.specs.Over.{over};
 ghost use Rattle.metrics_trees.specs.Recorders.{books_in, most_books, start};
 ghost use Rattle.metrics_rules.specs.Nodes.{most_leaves};
 ghost use Rattle.metrics.specs.declared.error.Error.TheVariants.{Memory, TooManyBooks};
@@ -34,7 +33,6 @@ impl<B: Recorder> Leaves<B> {
     /// `TooManyBooks` if there would be more, and else `Memory`.
     pub(crate) fn make_room(&mut self, alloc: Global, others: &Leaves<B>) -> Result<(), Error>
         requires most { length (recorders_of others.now) ≤ most_leaves }
-        requires few { books_in (map B.meaning (recorders_of self.old)) ≤ most_books }
         ensures recorders { recorders_of self.new ≡ recorders_of self.old }
         ensures room { let n = books_in (map B.meaning (recorders_of self.old))
             + books_in (map B.meaning (recorders_of others.now)) in MatchResult result
@@ -101,9 +99,10 @@ impl<B: Recorder> Leaves<B> {
         }
     }
 
-    /// The number of books of all.
+    /// The number of books of all, at most 65,536.
     pub(crate) fn books(&self) -> usize
-        ensures { result ≡ books_in (map B.meaning (recorders_of self.now)) }
+        ensures count { result ≡ books_in (map B.meaning (recorders_of self.now)) }
+        ensures most { result ≤ most_books }
     {
         match self {
             Leaves::Empty => 0,
@@ -164,7 +163,7 @@ impl<B: Recorder> Leaves<B> {
         }
     }
 
-    #[tactic(auto, using(crate::proofs::OneChildLemmas::holds_none))]
+    #[tactic(auto, using(crate::proofs::JoinedLemmas::holds_none))]
     pub(crate) fn holds(&self, kind: MetricKind, at: Address) -> bool
         ensures { result ≡ holds_at kind at (joined_all (map B.meaning (recorders_of self.now))).contents }
     {
@@ -182,10 +181,7 @@ impl<B: Recorder> Leaves<B> {
     }
 
     pub(crate) fn update(&mut self, at: Address, by: Update) -> Result<(), Refused>
-        ensures count { length (recorders_of self.new) ≡ length (recorders_of self.old) }
-        ensures books { books_in (map B.meaning (recorders_of self.new)) ≡ books_in (map B.meaning (recorders_of self.old)) }
-        ensures keeps { (rules : Meaning) → KeepsTargets (over rules (map B.meaning (recorders_of self.old)))
-            (over rules (map B.meaning (recorders_of self.new))) }
+        ensures stay { Stay B.meaning (recorders_of self.old) (recorders_of self.new) }
         ensures updates { Updates (joined_all (map B.meaning (recorders_of self.old)))
             (joined_all (map B.meaning (recorders_of self.new))) at by result }
     {
@@ -208,10 +204,7 @@ impl<B: Recorder> Leaves<B> {
         book: usize,
         reset: Reset,
     ) -> Result<Snapshot, Refused>
-        ensures count { length (recorders_of self.new) ≡ length (recorders_of self.old) }
-        ensures books { books_in (map B.meaning (recorders_of self.new)) ≡ books_in (map B.meaning (recorders_of self.old)) }
-        ensures keeps { (rules : Meaning) → KeepsTargets (over rules (map B.meaning (recorders_of self.old)))
-            (over rules (map B.meaning (recorders_of self.new))) }
+        ensures stay { Stay B.meaning (recorders_of self.old) (recorders_of self.new) }
         ensures snapshots { Snapshots (joined_all (map B.meaning (recorders_of self.old)))
             (joined_all (map B.meaning (recorders_of self.new))) book reset result }
     {

@@ -1,7 +1,6 @@
 //! Where the books of several recorders are.
-ghost use Rattle.std.specs.Prelude.{◌≡◌, ◌<◌, ◌++◌, ℕ, List, IsTrue, OnOk, OnErr};
+ghost use Rattle.std.specs.Prelude.{◌≡◌, ◌<◌, ◌++◌, IsTrue, OnOk, OnErr};
 ghost use Rattle.std.specs.Result.{result_map_both};
-ghost use Rattle.metrics.specs.Meaning.{Meaning};
 ghost use Rattle.metrics_trees.specs.Places.{Ascends, IsLast, raised, IsAppended, CanRaise, CanAppend};
 
 use metrics::{Address, Refused};
@@ -34,7 +33,7 @@ fn raise(found: &mut [Address], front: usize)
     ensures { found.new ≡ raised front found.old }
 {
     for at in found {
-        at.book += front;
+        at.book = front + at.book;
     }
 }
 

@@ -1,11 +1,11 @@
 //! Recorders. Each name goes to one of them.
-ghost use Rattle.std.specs.Prelude.{◌≡◌, ◌≤◌, ◌<◌, ◌-◌, ◌++◌, ◌∷◌, [], List, suc, false};
-ghost use Rattle.std.specs.Prelude.{nat_eq, length, map, MatchResult};
+ghost use Rattle.std.specs.Prelude.{◌≡◌, ◌<◌, ◌-◌, ◌++◌, ◌∷◌, [], List, suc, false};
+ghost use Rattle.std.specs.Prelude.{nat_eq, length, MatchResult};
 ghost use Rattle.metrics.specs.Layers.{Route, routed, joined_all};
 ghost use Rattle.metrics_rules.specs.Nodes.{leaves_in};
 ghost use Rattle.metrics_rules.specs.Builders.{router_branches};
 ghost use Rattle.metrics_trees.specs.Leaves.{recorders_of};
-ghost use Rattle.metrics_trees.specs.Recorders.{BooksFit, books_in, most_books, route_refusal, target_refusal};
+ghost use Rattle.metrics_trees.specs.Recorders.{BooksFit, route_refusal, target_refusal};
 
 use crate::child::{Child, Router};
 use crate::leaves::Leaves;
@@ -22,7 +22,6 @@ pub struct RouterBuilder<B: Recorder> {
     /// The leaves of the default, and then those of the targets.
     leaves: Leaves<B>,
     ghost as_many: { leaves_in (router_branches rules) ≡ length (recorders_of leaves) },
-    ghost few: { books_in (map B.meaning (recorders_of leaves)) ≤ most_books },
 }
 
 impl<B: Recorder> RouterBuilder<B> {

@@ -115,13 +115,9 @@ impl<B: Recorder> Row<B> {
 fn are_few<B: Recorder>(recorders: &[B]) -> bool
     ensures { result ≡ nat_le (books_in (map B.meaning recorders.now)) most_books }
 {
-    let mut end: usize = 0;
+    let mut books: usize = 0;
     for recorder in recorders {
-        let books = recorder.books();
-        if books > MOST_BOOKS - end {
-            return false;
-        }
-        end += books;
+        books = books.saturating_add(recorder.books());
     }
-    true
+    books <= MOST_BOOKS
 }

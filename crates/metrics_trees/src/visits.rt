@@ -52,9 +52,10 @@ pub struct Below<B: Recorder> {
 
 impl<B: Recorder> Below<B> {
     pub(crate) fn new(leaves: Leaves<B>) -> Below<B>
-        requires { books_in (map B.meaning (recorders_of leaves)) ≤ most_books }
         ensures { recorders_of result.registrar.leaves ≡ recorders_of leaves }
     {
+        // This call brings in the bound on the number of books.
+        let _books = leaves.books();
         Below {
             scratch: None,
             registrar: Registrar { leaves, call: None },
@@ -117,7 +118,6 @@ pub struct Describing<'a, B: Recorder> {
     pub text: &'a str,
     pub leaves: Leaves<B>,
     pub acted: usize,
-    ghost few: { books_in (map B.meaning (recorders_of leaves)) ≤ most_books },
 }
 
 impl<B: Recorder> Visitor<KeyName> for Describing<'_, B> {

@@ -17,7 +17,7 @@ invariant_of-self-in-Ok g c =
     let s = c.args.self.now in
     let few = (c.in_default.ensures {u = tt}).room.0 in
     let h = gains (fanout_branches s.rules) s.leaves c.args.child s.as_many few _ _ _ (c.in-Ok.ensures {u = tt}).1 c.make_room.ensures.recorders c.append_reserved.ensures in
-    record { as_many = h.as_many; few = h.few }
+    record { as_many = h.as_many }
 
 pub returns-in-Ok : goal.returns-in-Ok
 returns-in-Ok g c =

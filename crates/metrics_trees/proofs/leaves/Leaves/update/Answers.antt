@@ -1,36 +1,29 @@
-use Rattle.std.proofs.Common.{[], map, refl}
+use Rattle.std.proofs.Common.{sym, refl, arith}
+use Rattle.metrics.specs.Book.{kind_of}
 use Rattle.metrics.proofs.MeaningLemmas.{length-updates}
-use Rattle.metrics_rules.proofs.JoinedLemmas.{leaves-stay}
-use Rattle.metrics_trees.proofs.OneChildLemmas.{updates-none, place-within, put-updated}
+use Rattle.metrics_trees.proofs.JoinedLemmas.{holds_none}
+use Rattle.metrics_trees.proofs.OneChildLemmas.{stay-one, put-updated}
 use Rattle.metrics_trees.proofs.leaves.Leaves.update.Goals as goal
 
 pub invariant_of-row : goal.invariant_of-row
 invariant_of-row g c =
-    let m = g.B.Recorder.meaning in
-    let row = c.in-Several.row in
-    let place = c.in-Some.ensures {u = tt} in
-    let p =
-    put-updated m row.recorders.items c.in-Some.number c.index_mut.result.now (place-within m row.recorders.items place) c.index_mut.ensures.value c.args.at.book c.in-Some.book place
-    c.update-in-Some.new.self c.update-in-Some.ensures.keeps row.starts.items row.books row.starts_are row.count c.args.at.series c.args.by c.update-in-Some.result c.update-in-Some.ensures.updates in
-    record { starts_are = p.starts_are; count = p.all; most = row.most }
+    let u = c.update-in-Some in
+    let p = (put-updated c.in-Several.row c.in-Some.number c.index_mut.result.now c.index_mut.ensures.value c.args.at.book c.in-Some.book (c.in-Some.ensures {u = tt}) u.new.self u.ensures.keeps c.args.at.series c.args.by u.result u.ensures.updates).0 in
+    record { starts_are = p.starts_are; count = p.count; most = c.in-Several.row.most }
 
-pub returns-in-One-clause-books : goal.returns-in-One-clause-books
-returns-in-One-clause-books g c =
-    let x = g.B.Recorder.meaning c.in-One.recorder in
-    let y = g.B.Recorder.meaning c.update.new.self in
-    rw c.in-One.is (leaves-stay [] [] x y (length-updates x y _ _ _ c.update.ensures.updates))
+pub returns-in-One-clause-stay : goal.returns-in-One-clause-stay
+returns-in-One-clause-stay g c =
+    let m = g.B.Recorder.meaning in
+    let x = c.in-One.recorder in
+    let y = c.update.new.self in
+    rw c.in-One.is (stay-one m _ 0 x (omega arith) refl y c.update.ensures.keeps (length-updates (m x) (m y) _ _ _ c.update.ensures.updates))
 
 pub returns-in-None : goal.returns-in-None
 returns-in-None g c =
-    let all = map g.B.Recorder.meaning c.in-Several.row.recorders.items in
-    rw c.in-Several.is (record { count = refl; books = refl; keeps = λ R. refl; updates = updates-none all c.args.at.book (c.in-None.ensures {u = tt}) (Prim.Unit {0}) c.args.at.series c.args.by })
+    rw c.in-Several.is (record { stay = record { count = refl; books = refl; same = λ kind ts. refl }; updates = (sym (holds_none (kind_of c.args.by) c.args.at.book c.args.at.series _ (c.in-None.ensures {u = tt})), refl) })
 
 pub returns-in-Some : goal.returns-in-Some
 returns-in-Some g c =
-    let m = g.B.Recorder.meaning in
-    let row = c.in-Several.row in
-    let place = c.in-Some.ensures {u = tt} in
-    let p =
-    put-updated m row.recorders.items c.in-Some.number c.index_mut.result.now (place-within m row.recorders.items place) c.index_mut.ensures.value c.args.at.book c.in-Some.book place
-    c.update-in-Some.new.self c.update-in-Some.ensures.keeps row.starts.items row.books row.starts_are row.count c.args.at.series c.args.by c.update-in-Some.result c.update-in-Some.ensures.updates in
-    rw c.in-Several.is (record { count = p.count; books = p.books_stay; keeps = p.keeps; updates = p.called })
+    let u = c.update-in-Some in
+    let p = put-updated c.in-Several.row c.in-Some.number c.index_mut.result.now c.index_mut.ensures.value c.args.at.book c.in-Some.book (c.in-Some.ensures {u = tt}) u.new.self u.ensures.keeps c.args.at.series c.args.by u.result u.ensures.updates in
+    rw c.in-Several.is (record { stay = p.0.stay; updates = p.1 })

@@ -1,8 +1,8 @@
-use Rattle.std.proofs.Common.{refl, ap, inl, inr}
+use Rattle.std.proofs.Common.{refl, ap, inl, inr, arith}
 use Rattle.metrics.proofs.MeaningLemmas.{length-registers}
 use Rattle.metrics_trees.specs.Leaves.{recorders_of}
 use Rattle.metrics_trees.specs.Visiting.{kind_of}
-use Rattle.metrics_trees.proofs.OneChildLemmas.{few-after}
+use Rattle.metrics_trees.proofs.OneChildLemmas.{stay-called}
 use Rattle.metrics_trees.proofs.RegisterLemmas.{can-append, asked}
 use Rattle.metrics_trees.proofs.visits.RegistrarVisitorKey.visit.Goals as goal
 
@@ -19,7 +19,8 @@ pub invariant_of-self-2 : goal.invariant_of-self-2
 invariant_of-self-2 g c =
     let m = g.B.Recorder.meaning in
     let h = c.register-answer.ensures in
-    record { few = few-after m c.args.leaf h (length-registers (m h.before) (m h.after) _ c.args.key.now _ h.called) c.args.self.now.few }
+    let stay = stay-called m c.args.leaf h (length-registers (m h.before) (m h.after) _ c.args.key.now _ h.called) in
+    record { few = omega (arith, stay.books, c.args.self.now.few) }
 
 pub returns : goal.returns
 returns g c =
