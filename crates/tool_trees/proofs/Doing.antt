@@ -1,6 +1,5 @@
 -- What a line does, from what was taken and what was made of it.
-use Rattle.std.proofs.Common.{◌≡◌, ℕ, suc, ◌<◌, List, [], ◌∷◌, ◌++◌, length, Result, Ok, Err, refl, sym, ap, subst, ◌∙◌, arith}
-use Rattle.metrics.specs.Meaning.{Meaning}
+use Rattle.std.proofs.Common.{◌≡◌, ℕ, suc, ◌<◌, List, [], ◌∷◌, ◌++◌, length, refl, sym, ap, subst, ◌∙◌, arith}
 use Rattle.tool_trees.specs.declared.tree_line.TreeLine.{TreeLine}
 use Rattle.tool_trees.specs.declared.tree_line.TreeLine.TheVariants as line
 use Rattle.tool_trees.specs.Words.{spelling, CanBeSpelled, Spells}
@@ -9,7 +8,8 @@ use Rattle.tool_trees.specs.Trees.{Tree, Node, Trees, none, more, number_of, app
 use Rattle.tool_trees.proofs.OneListAtMost.{number-append, split_same, end_stuck}
 use Rattle.tool_trees.specs.declared.level.Level.{Level}
 use Rattle.tool_trees.specs.declared.level.LineError.{LineError}
-use Rattle.tool_trees.specs.Doing.{level_meanings, most_of, IsBuilt, AreBuilt, Does, Puts}
+use Rattle.tool_trees.specs.declared.level.LineError.TheVariants.{Bad}
+use Rattle.tool_trees.specs.Doing.{level_meaning, level_meanings, most_of, IsBuilt, AreBuilt}
 
 -- ---- stacks that are built
 
@@ -40,27 +40,23 @@ built_split (l ∷ front) all (more t ts) h = let (before, here, whole, f, a) = 
 -- ---- lines
 
 module _ (l : TreeLine) (old front all : List Level) (whole : old ≡ front ++ all) (count : length all ≡ arity l) where
-  -- a step uses what was taken
-  uses : (ts us : Trees) → AreBuilt old ts → (s : Steps l ts us) → AreAlike all s.used
-  uses ts us h s =
+  -- a step uses what was taken, so this fits the line and has few levels
+  pub can : (ts us : Trees) → AreBuilt old ts → Steps l ts us → Fits l (level_meanings all) × (most_of all < 1000)
+  can ts us h s =
       let (before, here, is, f, a) = built_split front all ts (rw (← whole) h) in
-      let same = split_same s.front before s.used here (sym s.before ∙ is) (s.makes.number ∙ sym count ∙ (alike all here a).number) in
-      rw same.1 (alike all here a)
+      let k = alike all here a in
+      let same = split_same s.front before s.used here (sym s.before ∙ is) (s.makes.number ∙ sym count ∙ k.number) in
+      (subst (Fits l) (ap meanings_of same.1 ∙ sym k.meanings) s.makes.fits, omega (arith, ap most_levels same.1, k.levels, s.makes.low))
 
-  -- what was taken doesn't fit the line
-  pub does_unfit : (Fits l (level_meanings all) → ⊥) → (ts us : Trees) → AreBuilt old ts → Steps l ts us → ⊥
-  does_unfit unfit ts us h s = unfit (subst (Fits l) (sym (uses ts us h s).meanings) s.makes.fits)
-
-  -- the recorder was pushed, or has too many levels
-  pub does_put : (new : List Level) (m : Meaning) (n : ℕ) (r : Result (Unit {0}) LineError) → CanBeSpelled l → Fits l (level_meanings all) →
-      m ≡ line_meaning l (level_meanings all) → n ≡ suc (most_of all) → Puts m n front new r → Does l old new r
-  does_put new m n (Ok done) spelled fit e f (le, top, mean, lev, is) = λ ts h.
+  -- a recorder over it was pushed
+  pub does_put : (new : List Level) (top : Level) → CanBeSpelled l → Fits l (level_meanings all) → level_meaning top ≡ line_meaning l (level_meanings all)
+      → top.levels ≡ suc (most_of all) → most_of all < 1000 → new ≡ front ++ top ∷ [] → (ts : Trees) → AreBuilt old ts → (us : Trees) × Steps l ts us × AreBuilt new us
+  does_put new top spelled fit mean lev low is ts h =
       let (before, here, cut, front_built, a) = built_split front all ts (rw (← whole) h) in
       let k = alike all here a in
-      let makes : Makes l here = record { spelled = spelled; number = sym k.number ∙ count; fits = subst (Fits l) k.meanings fit; low = omega (arith, k.levels) } in
-      let built : IsBuilt top (Node l here) = record { meaning = mean ∙ e ∙ ap (line_meaning l) k.meanings; levels = omega (arith, lev, f, k.levels); allowed = (makes, k.allowed) } in
+      let makes : Makes l here = record { spelled = spelled; number = sym k.number ∙ count; fits = subst (Fits l) k.meanings fit; low = omega (arith, k.levels, low) } in
+      let built : IsBuilt top (Node l here) = record { meaning = mean ∙ ap (line_meaning l) k.meanings; levels = omega (arith, lev, k.levels); allowed = (makes, k.allowed) } in
       (push before (Node l here), record { front = before; used = here; before = cut; after = refl; makes = makes }, rw is (built_push front before top (Node l here) front_built built))
-  does_put new m n (Err error) spelled fit e f p = λ bad ts us h s. absurd (omega (arith, (uses ts us h s).levels, s.makes.low, f, p bad))
 
 -- too short a stack
 pub does_short : (l : TreeLine) (old : List Level) → length old < arity l → (ts us : Trees) → AreBuilt old ts → Steps l ts us → ⊥
@@ -74,5 +70,7 @@ pub not_one : (bytes : List ℕ) (old : List Level) (ts : Trees) → bytes ≡ s
 not_one bytes old ts e ne b = ((λ t f g. ne ((alike old ts b).number ∙ ap number_of g)), rw e (end_stuck ts))
 
 -- a line that is bad there
-pub said_bad : (bytes : List ℕ) (said : TreeLine) (ts : Trees) → Spells bytes said → ((us : Trees) → Steps said ts us → ⊥) → IsStuck bytes ts
-said_bad bytes said ts sp bad l us sq st = bad us (subst (λ k. Steps k ts us) (line_same l said sq.0 sp.0 (sym sq.1 ∙ sp.1)) st)
+pub bad_line : (said : TreeLine) (old : List Level) (e : LineError) → (e ≡ Bad → (ts us : Trees) → AreBuilt old ts → Steps said ts us → ⊥) → (bytes : List ℕ) → Spells bytes said
+    → (bytes ≡ spelling line.End → ⊥) → e ≡ Bad → (ts : Trees) → AreBuilt old ts → ((t : Tree) → bytes ≡ spelling line.End → ts ≡ more t none → ⊥) × IsStuck bytes ts
+bad_line said old e fails bytes sp not_end bad ts b =
+    ((λ t is one. not_end is), λ l us sq st. fails bad ts us b (subst (λ k. Steps k ts us) (line_same l said sq.0 sp.0 (sym sq.1 ∙ sp.1)) st))

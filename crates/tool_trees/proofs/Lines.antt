@@ -1,8 +1,9 @@
 -- Lines and their words: bytes spell at most one line, and how they are read.
-use Rattle.std.proofs.Common.{◌≡◌, ◌≢◌, ℕ, ◌+◌, ◌<◌, ◌^◌, List, [], ◌∷◌, ◌++◌, Bool, true, false, codes, decimal, get_or, refl, sym, ap, ◌∙◌, arith, ◌≤◌, length, eqb, subst, append_assoc, append-nil, IsUtf8}
+use Rattle.std.proofs.Common.{◌≡◌, ◌≢◌, ℕ, ◌+◌, ◌<◌, ◌^◌, List, [], ◌∷◌, ◌++◌, Bool, true, false, codes, decimal, get_or, refl, sym, ap, ◌∙◌, arith, ◌≤◌, length, subst, append_assoc, append-nil, IsUtf8, drop}
 use Rattle.std.specs.List.{AllByRecursion}
 use Rattle.std.specs.Str.Parse.{AllDigits}
-use Rattle.std.proofs.lemmas.List.Elements.{recursion_from_All, All-from_recursion, All-append}
+use Rattle.std.proofs.Math.Seq.{drop-append_seam}
+use Rattle.std.proofs.lemmas.List.Elements.{recursion_from_All, All-from_recursion, All-append, All-cons, All-rest, All-drop, All-push}
 use Rattle.std.proofs.lemmas.Fmt.{decimal_is_IsNumeral, decimal_injective}
 use Rattle.std.proofs.lemmas.Str.Parse.{digit_from_value}
 use Rattle.tool_grammar.specs.Cuts.{Lacks, StartsAt}
@@ -11,7 +12,7 @@ use Rattle.tool_grammar.specs.Kinds.{kinds_word, HasKind}
 use Rattle.metrics_names.specs.Names.{name_word}
 use Rattle.tool_grammar.proofs.CallLemmas.{name_same}
 use Rattle.tool_grammar.proofs.KindsLemmas.{kinds_same, lacks_kinds}
-use Rattle.tool_grammar.proofs.WordsLemmas.{before_same, first_same, lacks_name, lacks_decimal, not_cut}
+use Rattle.tool_grammar.proofs.WordsLemmas.{before_same, first_same, lacks_name, lacks_decimal}
 use Rattle.tool_trees.specs.declared.tree_line.RouteWord.{RouteWord}
 use Rattle.tool_trees.specs.declared.tree_line.TreeLine.{TreeLine}
 use Rattle.tool_trees.specs.declared.tree_line.TreeLine.TheVariants as line
@@ -52,24 +53,24 @@ slashless n h = All-from_recursion _ (decimal n) (digits_lack (decimal n) (decim
 
 pub lacks_route : (r : RouteWord) → IsRoute r → Lacks 32 (route_word r)
 lacks_route r h =
-    All-append (λ x. x ≢ 32) (kinds_word r.kinds) (47 ∷ (decimal r.target ++ 47 ∷ r.pattern)) (lacks_kinds 32 r.kinds (omega arith))
-    (slash_first (decimal r.target ++ 47 ∷ r.pattern) (All-append (λ x. x ≢ 32) (decimal r.target) (47 ∷ r.pattern) (lacks_decimal r.target h.1) (slash_first r.pattern h.3)))
-  where
-    slash_first : (xs : List ℕ) → Lacks 32 xs → Lacks 32 (47 ∷ xs)
-    slash_first xs g = All-from_recursion (λ x. x ≢ 32) (47 ∷ xs) ((λ e. absurd (omega (arith, e))), recursion_from_All (λ x. x ≢ 32) xs g)
+    let slash : 47 ≢ 32 = λ e. absurd (omega (arith, e)) in
+    let others = All-append (λ x. x ≢ 32) (decimal r.target) (47 ∷ r.pattern) (lacks_decimal r.target h.1) (All-cons (λ x. x ≢ 32) 47 r.pattern slash h.3) in
+    All-append (λ x. x ≢ 32) (kinds_word r.kinds) (47 ∷ (decimal r.target ++ 47 ∷ r.pattern)) (lacks_kinds 32 r.kinds (omega arith)) (All-cons (λ x. x ≢ 32) 47 (decimal r.target ++ 47 ∷ r.pattern) slash others)
 
 -- a route is cut in one way
-pub route_parts : (kinds target pattern : List ℕ) (r : RouteWord) → IsRoute r → Lacks 47 kinds → Lacks 47 target → kinds ++ 47 ∷ (target ++ 47 ∷ pattern) ≡ route_word r
-    → (kinds ≡ kinds_word r.kinds) × (target ≡ decimal r.target) × (pattern ≡ r.pattern)
-route_parts kinds target pattern r h lk lt e =
-    let one = first_same 47 (route_word r) kinds (target ++ 47 ∷ pattern) (kinds_word r.kinds) (decimal r.target ++ 47 ∷ r.pattern) lk (lacks_kinds 47 r.kinds (omega arith)) (sym e) refl in
-    let two = first_same 47 (decimal r.target ++ 47 ∷ r.pattern) target pattern (decimal r.target) r.pattern lt (slashless r.target h.1) (sym one.1) refl in
-    (one.0, two.0, two.1)
+module _ (bytes kinds rest : List ℕ) (whole : bytes ≡ kinds ++ 47 ∷ rest) (before : Lacks 47 kinds) (r : RouteWord) (h : IsRoute r) (e : bytes ≡ route_word r) where
+  pub first_part : (kinds ≡ kinds_word r.kinds) × (rest ≡ decimal r.target ++ 47 ∷ r.pattern)
+  first_part = first_same 47 bytes kinds rest (kinds_word r.kinds) (decimal r.target ++ 47 ∷ r.pattern) before (lacks_kinds 47 r.kinds (omega arith)) whole e
+
+  pub other_parts : (target pattern : List ℕ) → rest ≡ target ++ 47 ∷ pattern → Lacks 47 target → (target ≡ decimal r.target) × (pattern ≡ r.pattern)
+  other_parts target pattern cut slash = first_same 47 rest target pattern (decimal r.target) r.pattern slash (slashless r.target h.1) cut first_part.1
 
 route_same : (r s : RouteWord) → IsRoute r → IsRoute s → route_word r ≡ route_word s → r ≡ s
 route_same r s h g e =
-    let parts = route_parts (kinds_word r.kinds) (decimal r.target) r.pattern s g (lacks_kinds 47 r.kinds (omega arith)) (slashless r.target h.1) e in
-    is (kinds_same r.kinds s.kinds h.0 g.0 parts.0) (decimal_injective r.target s.target h.1 g.1 parts.1) parts.2
+    let rest = decimal r.target ++ 47 ∷ r.pattern in
+    let free = lacks_kinds 47 r.kinds (omega arith) in
+    let parts = other_parts (route_word r) (kinds_word r.kinds) rest refl free s g e (decimal r.target) r.pattern refl (slashless r.target h.1) in
+    is (kinds_same r.kinds s.kinds h.0 g.0 (first_part (route_word r) (kinds_word r.kinds) rest refl free s g e).0) (decimal_injective r.target s.target h.1 g.1 parts.0) parts.1
   where
     is : r.kinds ≡ s.kinds → r.target ≡ s.target → r.pattern ≡ s.pattern → r ≡ s
     is p q t =
@@ -98,17 +99,10 @@ line_same s t h g e = absurd (omega (arith, ap lead e))
 
 -- ---- words that are read
 
-pub positive : (n : ℕ) (b : Bool) → b ≡ eqb n 0 → b ≡ false → 0 < n
-positive n b e f = grind arith
-
 -- words begin with a space
-pub no_words : {A : Type 0} (word : A → List ℕ) (rest : List ℕ) (xs : List A) → rest ≡ words word xs → 0 < length rest → ((others : List ℕ) → rest ≡ 32 ∷ others → ⊥) → ⊥
-no_words word rest [] e p fails = absurd (omega (arith, ap length e))
-no_words word rest (x ∷ xs) e p fails = fails (word x ++ words word xs) e
-
-all_push : {A : Type 0} (Is : A → Type 0) (xs : List A) (x : A) → AllByRecursion Is xs → Is x → AllByRecursion Is (xs ++ x ∷ [])
-all_push Is [] x h g = (g, tt)
-all_push Is (y ∷ xs) x h g = (h.0, all_push Is xs x h.1 g)
+pub no_words : {A : Type 0} (word : A → List ℕ) (rest : List ℕ) (xs : List A) → rest ≡ words word xs → (length rest ≡ 0 → ⊥) → ((others : List ℕ) → rest ≡ 32 ∷ others → ⊥) → ⊥
+no_words word rest [] e some fails = some (ap length e)
+no_words word rest (x ∷ xs) e some fails = fails (word x ++ words word xs) e
 
 -- how far words are read
 pub record WordsSoFar {A : Type 0} (Is : A → Type 0) (word : A → List ℕ) (bytes rest : List ℕ) (xs : List A) : Type 0 where
@@ -127,45 +121,24 @@ module _ {A : Type 0} (Is : A → Type 0) (word : A → List ℕ) (lacks : (x : 
 
   pub words_more : (bytes : List ℕ) (xs : List A) (x : A) → WordsSoFar Is word bytes rest xs → Is x → here ≡ word x → WordsSoFar Is word bytes after (xs ++ x ∷ [])
   words_more bytes xs x so h e = record {
-    are = all_push Is xs x so.are h;
+    are = recursion_from_All Is (xs ++ x ∷ []) (All-push Is xs x (All-from_recursion Is xs so.are) h);
     whole = rw (so.whole, r, o, e) (simp (flat_map-append, append_assoc, append-nil));
     left = λ ys g b. let (k, ks, i) = so.left ys g b in let (y, zs, is, are, here_is, after_is) = next_of k ks i in (zs, are, after_is);
   }
 
 -- ---- routes that are read
 
-module _ (bytes kinds rest : List ℕ) (whole : bytes ≡ kinds ++ 47 ∷ rest) (before : Lacks 47 kinds) where
-  -- the route has no second slash
-  pub no_second : ((front back : List ℕ) → rest ≡ front ++ 47 ∷ back → ⊥) → (r : RouteWord) → IsRoute r → bytes ≡ route_word r → ⊥
-  no_second fails r h e = fails (decimal r.target) r.pattern (first_same 47 bytes kinds rest (kinds_word r.kinds) (decimal r.target ++ 47 ∷ r.pattern) before (lacks_kinds 47 r.kinds (omega arith)) whole e).1
-
-  module _ (target pattern : List ℕ) (parts : rest ≡ target ++ 47 ∷ pattern) (slash : Lacks 47 target) where
-    are_parts : (r : RouteWord) → IsRoute r → bytes ≡ route_word r → (kinds ≡ kinds_word r.kinds) × (target ≡ decimal r.target) × (pattern ≡ r.pattern)
-    are_parts r h e = route_parts kinds target pattern r h before slash (ap (λ z. kinds ++ 47 ∷ z) (sym parts) ∙ sym whole ∙ e)
-
-    pub no_kinds : ((k : ℕ) → HasKind k → kinds ≡ kinds_word k → ⊥) → (r : RouteWord) → IsRoute r → bytes ≡ route_word r → ⊥
-    no_kinds fails r h e = fails r.kinds h.0 (are_parts r h e).0
-
-    pub no_target : ((n : ℕ) → n < 2 ^ 64 → target ≡ decimal n → ⊥) → (r : RouteWord) → IsRoute r → bytes ≡ route_word r → ⊥
-    no_target fails r h e = fails r.target h.1 (are_parts r h e).1
-
-    pub no_pattern : (IsUtf8 pattern → ⊥) → (r : RouteWord) → IsRoute r → bytes ≡ route_word r → ⊥
-    no_pattern fails r h e = fails (subst IsUtf8 (sym (are_parts r h e).2) h.2)
-
-lacks_behind : (c : ℕ) (a b : List ℕ) → AllByRecursion (λ x. x ≢ c) (a ++ b) → AllByRecursion (λ x. x ≢ c) b
-lacks_behind c [] b h = h
-lacks_behind c (x ∷ a) b h = lacks_behind c a b h.1
+lacks_behind : (c x : ℕ) (a b : List ℕ) → Lacks c (a ++ x ∷ b) → Lacks c b
+lacks_behind c x a b h = All-rest (λ y. y ≢ c) x b (drop (length a) (a ++ x ∷ b)) (drop-append_seam a (x ∷ b)) (All-drop (λ y. y ≢ c) (length a) (a ++ x ∷ b) h)
 
 -- what was read is a route
 pub route_found : (word kinds rest target pattern p : List ℕ) (m n : ℕ) → word ≡ kinds ++ 47 ∷ rest → rest ≡ target ++ 47 ∷ pattern → Lacks 32 word → HasKind m → kinds ≡ kinds_word m → n < 2 ^ 64 → target ≡ decimal n →
     IsUtf8 pattern → p ≡ pattern → let r : RouteWord = record { kinds = m; target = n; pattern = p } in IsRoute r × (word ≡ route_word r)
 route_found word kinds rest target pattern p m n whole parts lacks some ek lt et utf8 ep =
-    let all : word ≡ kinds ++ 47 ∷ (target ++ 47 ∷ pattern) = whole ∙ ap (λ z. kinds ++ 47 ∷ z) parts in
-    let one : AllByRecursion (λ x. x ≢ 32) (target ++ 47 ∷ pattern) = (lacks_behind 32 kinds (47 ∷ (target ++ 47 ∷ pattern)) (subst (AllByRecursion (λ x. x ≢ 32)) all (recursion_from_All _ word lacks))).1 in
-    let two : Lacks 32 pattern = All-from_recursion (λ x. x ≢ 32) pattern (lacks_behind 32 target (47 ∷ pattern) one).1 in (
-      (some, lt, subst IsUtf8 (sym ep) utf8, subst (Lacks 32) (sym ep) two),
-      all ∙ ap (λ k. k ++ 47 ∷ (target ++ 47 ∷ pattern)) ek ∙ ap (λ t. kinds_word m ++ 47 ∷ (t ++ 47 ∷ pattern)) et ∙ ap (λ q. kinds_word m ++ 47 ∷ (decimal n ++ 47 ∷ q)) (sym ep),
-    )
+    let all : word ≡ kinds ++ 47 ∷ (target ++ 47 ∷ pattern) = cc in
+    let same : word ≡ kinds_word m ++ 47 ∷ (decimal n ++ 47 ∷ p) = cc in
+    let free : Lacks 32 pattern = lacks_behind 32 47 target pattern (lacks_behind 32 47 kinds (target ++ 47 ∷ pattern) (subst (Lacks 32) all lacks)) in
+    ((some, lt, subst IsUtf8 (sym ep) utf8, subst (Lacks 32) (sym ep) free), same)
 
 -- ---- lines that are read
 
@@ -191,27 +164,17 @@ no_fanout bytes fails l h = absurd (omega (arith, ap lead h.1))
 pub too_great : (bytes : List ℕ) (m : ℕ) → m < 2 ^ 64 → 65536 < m → bytes ≡ decimal m → IsNoLine (codes "fanout " ++ bytes)
 too_great bytes m lt gt e = no_fanout bytes (λ n le g. absurd (omega (arith, decimal_injective m n lt (omega arith) (sym e ∙ g), gt, le)))
 
-no_router : (bytes : List ℕ) → ((n : ℕ) (rs : List RouteWord) → n < 2 ^ 64 → AllByRecursion IsRoute rs → bytes ≡ decimal n ++ words route_word rs → ⊥) → IsNoLine (codes "router " ++ bytes)
-no_router bytes fails (line.Router n rs) h = fails n rs h.0.0 h.0.1 (let e = h.1 in cc)
-no_router bytes fails l h = absurd (omega (arith, ap lead h.1))
-
 module _ (bytes word others : List ℕ) (whole : bytes ≡ word ++ others) (lacks : Lacks 32 word) (starts : StartsAt 32 others) where
   -- a word that something follows is no name
-  pub no_two : (b : Bool) → b ≡ eqb (length others) 0 → b ≡ false → IsNoLine (codes "prefix " ++ bytes)
-  no_two b e f = no_prefix bytes (λ p h g. by others p (sym g ∙ whole) starts (positive (length others) b e f) h)
-    where
-      by : (after : List ℕ) (p : List ℕ) → name_word p ≡ word ++ after → StartsAt 32 after → 0 < length after → IsName p → ⊥
-      by [] p g s lt h = absurd (omega arith)
-      by (x ∷ after) p g s lt h = not_cut 32 (name_word p) word after (lacks_name p h) (g ∙ ap (λ y. word ++ y ∷ after) s)
+  pub no_two : (length others ≡ 0 → ⊥) → IsNoLine (codes "prefix " ++ bytes)
+  no_two some = no_prefix bytes (λ p h g. some (ap length (before_same 32 word (name_word p) others [] lacks (lacks_name p h) starts tt (sym whole ∙ g ∙ sym (append-nil (name_word p)))).1))
 
-  parts : (n : ℕ) (rs : List RouteWord) → n < 2 ^ 64 → bytes ≡ decimal n ++ words route_word rs → (word ≡ decimal n) × (others ≡ words route_word rs)
-  parts n rs lt e = before_same 32 word (decimal n) others (words route_word rs) lacks (lacks_decimal n lt) starts (starts_words route_word rs) (sym whole ∙ e)
-
-  pub no_targets : ((n : ℕ) → n < 2 ^ 64 → word ≡ decimal n → ⊥) → IsNoLine (codes "router " ++ bytes)
-  no_targets fails = no_router bytes (λ n rs lt h e. fails n lt (parts n rs lt e).0)
-
-  pub no_routes : ((rs : List RouteWord) → AllByRecursion IsRoute rs → others ≡ words route_word rs → ⊥) → IsNoLine (codes "router " ++ bytes)
-  no_routes fails = no_router bytes (λ n rs lt h e. fails rs h (parts n rs lt e).1)
+  pub no_router : ((n : ℕ) (rs : List RouteWord) → n < 2 ^ 64 → AllByRecursion IsRoute rs → word ≡ decimal n → others ≡ words route_word rs → ⊥) → IsNoLine (codes "router " ++ bytes)
+  no_router fails (line.Router n rs) h =
+      let all : bytes ≡ decimal n ++ words route_word rs = (let e = h.1 in cc) in
+      let both = before_same 32 word (decimal n) others (words route_word rs) lacks (lacks_decimal n h.0.0) starts (starts_words route_word rs) (sym whole ∙ all) in
+      fails n rs h.0.0 h.0.1 both.0 both.1
+  no_router fails l h = absurd (omega (arith, ap lead h.1))
 
 pub no_line : (bytes : List ℕ) → ((s : List ℕ) → bytes ≡ codes "prefix " ++ s → ⊥) → ((s : List ℕ) → bytes ≡ codes "filter " ++ s → ⊥) → ((s : List ℕ) → bytes ≡ codes "fanout " ++ s → ⊥)
     → ((s : List ℕ) → bytes ≡ codes "router " ++ s → ⊥) → bytes ≢ codes "book" → bytes ≢ codes "noop" → bytes ≢ codes "end" → IsNoLine bytes

@@ -1,11 +1,10 @@
 -- The recorders of the stack, and what a tree line does to them.
-use Rattle.std.specs.Prelude.{◌≡◌, ℕ, suc, ◌+◌, ◌<◌, ◌≤◌, max, List, [], ◌∷◌, ◌++◌, length, map, reverse, Result, Ok, Err, Bool, true, false}
+use Rattle.std.specs.Prelude.{◌≡◌, ℕ, suc, ◌+◌, ◌<◌, ◌≤◌, max, List, [], ◌∷◌, ◌++◌, length, map, Result, Ok, Err, Bool, true, false}
 use Rattle.metrics.specs.Meaning.{Meaning}
 use Rattle.metrics_debugging.specs.DebuggingMeaning as book
 use Rattle.metrics_trees.specs.Trees.{tree_meaning}
 use Rattle.metrics_trees.specs.Recorders.{books_in}
-use Rattle.tool_trees.specs.Trees.{NameTargets, Tree, Trees, none, more, meaning_of, levels_of, IsAllowed, Steps, IsStuck}
-use Rattle.tool_trees.specs.declared.tree_line.RouteWord.{RouteWord}
+use Rattle.tool_trees.specs.Trees.{Tree, Trees, none, more, meaning_of, levels_of, IsAllowed, Steps, IsStuck}
 use Rattle.tool_trees.specs.declared.level.Level.{Level}
 use Rattle.tool_trees.specs.declared.tree_line.TreeLine.{TreeLine}
 use Rattle.tool_trees.specs.declared.tree_line.TreeLine.TheVariants as line
@@ -24,28 +23,18 @@ abbrev pub most_of : List Level → ℕ
 most_of [] = 0
 most_of (l ∷ ls) = max l.levels (most_of ls)
 
--- recorders, and then those of a stack from its top
-abbrev pub in_all : List Meaning → List Level → List Meaning
-in_all ms ls = ms ++ level_meanings (reverse ls)
-
 -- A route was added to the recorders so far, of which the first is the default: to a target that was named, or to the
--- next one, from the top of the stack.
+-- first one that was not.
 pub record Adds (target named next : ℕ) (old new : List Meaning) (before after : List Level) : Type 0 where
   pub low : target ≤ named
   pub next_is : next ≡ max named (suc target)
   pub number : length new ≡ suc next
   pub count : next + length after ≡ named + length before
-  pub whole : in_all new after ≡ in_all old before
-  pub fits : books_in old ≤ 65536 → books_in new ≤ 65536
+  pub whole : new ++ level_meanings after ≡ old ++ level_meanings before
 
 abbrev pub CantAdd : ℕ → ℕ → List Meaning → List Level → Type 0
-CantAdd target named old before = target ≤ named → target < named + length before → books_in (in_all old before) ≤ 65536 → ⊥
-
--- All routes were added to the recorders, and all of the stack was named.
-pub record AreRouted (old new : List Meaning) (targets : List Level) (routes : List RouteWord) : Type 0 where
-  pub names : NameTargets (length targets) 0 routes
-  pub recorders : new ≡ in_all old targets
-  pub fits : books_in new ≤ 65536
+CantAdd target named old before =
+    target ≤ named → target < named + length before → books_in (old ++ level_meanings before) ≤ 65536 → ⊥
 
 -- ---- lines
 
@@ -59,16 +48,6 @@ abbrev pub AreBuilt : List Level → Trees → Type 0
 AreBuilt [] none = Unit {0}
 AreBuilt (l ∷ ls) (more t ts) = IsBuilt l t × AreBuilt ls ts
 AreBuilt ls ts = ⊥
-
--- The line removed its trees and pushed its own; or memory ran out; or the line is bad there.
-abbrev pub Does : TreeLine → List Level → List Level → Result (Unit {0}) LineError → Type 0
-Does line old new (Ok done) = (ts : Trees) → AreBuilt old ts → (us : Trees) × Steps line ts us × AreBuilt new us
-Does line old new (Err e) = e ≡ Bad → (ts us : Trees) → AreBuilt old ts → Steps line ts us → ⊥
-
--- a recorder of so many levels was pushed
-abbrev pub Puts : Meaning → ℕ → List Level → List Level → Result (Unit {0}) LineError → Type 0
-Puts m n old new (Ok done) = (n ≤ 1000) × (l : Level) × (level_meaning l ≡ m) × (l.levels ≡ n) × (new ≡ old ++ l ∷ [])
-Puts m n old new (Err e) = e ≡ Bad → 1000 < n
 
 -- The bytes are `end` over one recorder; or they spell a line that removed its trees and pushed its own. Or memory ran
 -- out, or the bytes are neither `end` over one tree nor a line that is allowed there.

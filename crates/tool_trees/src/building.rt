@@ -1,5 +1,5 @@
 //! Builds recorders out of recorders.
-ghost use Rattle.std.specs.Prelude.{◌≡◌, ◌<◌, ◌≤◌, ◌++◌, ◌∷◌, [], length, reverse, MatchResult};
+ghost use Rattle.std.specs.Prelude.{◌≡◌, ◌<◌, ◌≤◌, ◌++◌, ◌∷◌, [], length, MatchResult};
 ghost use Rattle.std.specs.List.{sum_by};
 ghost use Rattle.metrics.specs.Book.{new_book};
 ghost use Rattle.metrics.specs.Meaning.{one_book};
@@ -16,22 +16,25 @@ use metrics_debugging::DebuggingRecorder;
 use metrics_layers::{FilterLayer, PrefixLayer};
 use metrics_trees::{Child, FanoutBuilder};
 use std::alloc::Global;
+use std::collections::VecDeque;
 
 /// Returns a new book.
 pub fn book(alloc: Global) -> Result<Child<DebuggingRecorder>, LineError>
     ensures { MatchResult result (λ c. ⟦<Child<DebuggingRecorder> as Recorder>⟧.meaning c ≡ one_book new_book)
         (λ e. e ≡ NoMemory) }
 {
-    let book = DebuggingRecorder::new(alloc)?;
-    Ok(Child::leaf(book))
+    match DebuggingRecorder::new(alloc) {
+        Ok(book) => Ok(Child::leaf(book)),
+        Err(_) => Err(LineError::Memory),
+    }
 }
 
 /// The one recorder of a list.
-fn only(mut taken: Vec<Level>) -> Child<DebuggingRecorder>
+fn only(mut taken: VecDeque<Level>) -> Child<DebuggingRecorder>
     requires { length taken.items ≡ 1 }
-    ensures { level_meanings (reverse taken.items) ≡ ⟦<Child<DebuggingRecorder> as Recorder>⟧.meaning result ∷ [] }
+    ensures { level_meanings taken.items ≡ ⟦<Child<DebuggingRecorder> as Recorder>⟧.meaning result ∷ [] }
 {
-    let Some(Level { child, levels: _ }) = taken.pop() else {
+    let Some(Level { child, levels: _ }) = taken.pop_front() else {
         unreachable!()
     };
     child
@@ -40,13 +43,13 @@ fn only(mut taken: Vec<Level>) -> Child<DebuggingRecorder>
 /// Returns the one recorder below a prefix.
 pub fn below_prefix(
     alloc: Global,
-    taken: Vec<Level>,
+    taken: VecDeque<Level>,
     prefix: &Text,
 ) -> Result<Child<DebuggingRecorder>, LineError>
     requires { length taken.items ≡ 1 }
     ensures { MatchResult result
         (λ c. ⟦<Child<DebuggingRecorder> as Recorder>⟧.meaning c
-        ≡ line_meaning (line.Prefix prefix.now) (level_meanings (reverse taken.items)))
+        ≡ line_meaning (line.Prefix prefix.now) (level_meanings taken.items))
         (λ e. e ≡ NoMemory) }
 {
     match PrefixLayer::new(alloc, prefix.as_str()) {
@@ -78,7 +81,7 @@ fn filter_layer(
 /// Returns the one recorder below a filter.
 pub fn below_filter(
     alloc: Global,
-    taken: Vec<Level>,
+    taken: VecDeque<Level>,
     fold: bool,
     table: bool,
     patterns: &[Text],
@@ -86,7 +89,7 @@ pub fn below_filter(
     requires { length taken.items ≡ 1 }
     ensures { let said = line.Filter fold table patterns.now in MatchResult result
         (λ c. (sum_by length patterns.now ≤ 1048576)
-        × (⟦<Child<DebuggingRecorder> as Recorder>⟧.meaning c ≡ line_meaning said (level_meanings (reverse taken.items))))
+        × (⟦<Child<DebuggingRecorder> as Recorder>⟧.meaning c ≡ line_meaning said (level_meanings taken.items)))
         (λ e. e ≡ IsBadLine → 1048576 < sum_by length patterns.now) }
 {
     match filter_layer(alloc, fold, table, patterns) {
@@ -95,47 +98,47 @@ pub fn below_filter(
     }
 }
 
-/// Removes recorders from the top of the stack. Returns them, the topmost first, and their greatest number of levels.
+/// Removes recorders from the top of the stack. Returns them, the deepest first, and their greatest number of levels.
 pub fn take_top(
     alloc: Global,
     stack: &mut Vec<Level>,
     count: u64,
-) -> Result<(Vec<Level>, u64), LineError>
+) -> Result<(VecDeque<Level>, u64), LineError>
     ensures { MatchResult result
-        (λ taken. (stack.old.items ≡ stack.new.items ++ reverse taken.0.items) × (length taken.0.items ≡ count)
-        × (taken.1 ≡ most_of (reverse taken.0.items)) × (taken.1 ≤ 1000))
+        (λ taken. (stack.old.items ≡ stack.new.items ++ taken.0.items) × (length taken.0.items ≡ count)
+        × (taken.1 ≡ most_of taken.0.items))
         (λ e. e ≡ IsBadLine → length stack.old.items < count) }
 {
-    if count > stack.len() as u64 {
-        return Err(LineError::Bad);
-    }
-    let mut taken = Vec::new(alloc);
+    let mut taken = VecDeque::new(alloc);
     let mut most: u64 = 0;
-    while (taken.len() as u64) < count {
+    for _number in 0..count {
         let Some(level) = stack.pop() else {
-            unreachable!()
+            return Err(LineError::Bad);
         };
         most = most.max(level.levels);
-        taken.push(level)?;
+        taken.push_front(level)?;
     }
     Ok((taken, most))
 }
 
-/// Returns a fanout over recorders, of which the last is the first child.
+/// Returns a fanout over recorders.
 pub fn fanout_over(
     alloc: Global,
-    mut taken: Vec<Level>,
+    mut taken: VecDeque<Level>,
 ) -> Result<Child<DebuggingRecorder>, LineError>
-    ensures { let all = level_meanings (reverse taken.items) in MatchResult result
+    ensures { let all = level_meanings taken.items in MatchResult result
         (λ c. (books_in all ≤ 65536) × (⟦<Child<DebuggingRecorder> as Recorder>⟧.meaning c ≡ joined_all all))
         (λ e. e ≡ IsBadLine → 65536 < books_in all) }
 {
     let mut builder = FanoutBuilder::default(alloc);
-    while let Some(Level { child, levels: _ }) = taken.pop() {
+    while let Some(Level { child, levels: _ }) = taken.pop_front() {
         match builder.add_recorder(child) {
             Ok(()) => {}
             Err(refused) => return Err(LineError::from(refused)),
         }
     }
-    Ok(Child::fanout(builder.build()))
+    let fanout = Child::fanout(builder.build());
+    // The trait bounds the number of books when it is asked for.
+    let _books = fanout.books();
+    Ok(fanout)
 }

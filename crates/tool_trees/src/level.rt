@@ -1,9 +1,9 @@
 //! A recorder of the stack, and why a tree line fails.
-ghost use Rattle.std.specs.Prelude.{◌≡◌, ◌≤◌, ◌↔◌};
+ghost use Rattle.std.specs.Prelude.{◌≡◌, ◌↔◌};
 ghost use Rattle.metrics.specs.declared.error.Error.TheVariants.{Memory as IsRefused};
 ghost use Rattle.tool_trees.specs.declared.level.LineError.TheVariants.{Memory as NoMemory};
 
-use metrics::{Error, Refused};
+use metrics::Error;
 use metrics_debugging::DebuggingRecorder;
 use metrics_trees::Child;
 use std::alloc::AllocFailed;
@@ -15,7 +15,6 @@ pub struct Level {
     pub child: Child<DebuggingRecorder>,
     /// Its number of levels.
     pub levels: u64,
-    ghost low: { levels ≤ 1000 },
 }
 
 /// Why a tree line failed.
@@ -51,15 +50,6 @@ impl<T: Drop> From<AllocFailed<T>> for LineError {
     ghost from_gives = { λ _ l. l ≡ NoMemory };
 
     fn from(_error: AllocFailed<T>) -> LineError {
-        LineError::Memory
-    }
-}
-
-/// A new book fails only when out of memory.
-impl From<Refused> for LineError {
-    ghost from_gives = { λ _ l. l ≡ NoMemory };
-
-    fn from(_refused: Refused) -> LineError {
         LineError::Memory
     }
 }

@@ -1,6 +1,6 @@
 //! Builds routers.
 ghost use Rattle.std.specs.Prelude.{◌≡◌, ◌<◌, ◌≤◌, ◌+◌, ◌^◌, ◌++◌, ◌∷◌, [], suc, ◌-◌};
-ghost use Rattle.std.specs.Prelude.{length, map, reverse, List, OnOk, MatchResult};
+ghost use Rattle.std.specs.Prelude.{length, map, List, OnOk, MatchResult};
 ghost use Rattle.std.specs.List.{AllByRecursion};
 ghost use Rattle.metrics.specs.Layers.{Route, routed};
 ghost use Rattle.metrics_trees.specs.Builders.{router_recorders, HasRoutes};
@@ -8,7 +8,7 @@ ghost use Rattle.tool_trees.specs.Words.{IsRoute};
 ghost use Rattle.metrics_trees.specs.Recorders.{books_in};
 ghost use Rattle.tool_trees.specs.Trees.{pattern_of, route_of, NameTargets};
 ghost use Rattle.tool_trees.specs.declared.level.LineError.TheVariants.{Bad as IsBadLine};
-ghost use Rattle.tool_trees.specs.Doing.{level_meanings, in_all, Adds, CantAdd, AreRouted};
+ghost use Rattle.tool_trees.specs.Doing.{level_meanings, Adds, CantAdd};
 
 use crate::level::{Level, LineError, refusing};
 use crate::tree_line::RouteWord;
@@ -16,6 +16,7 @@ use metrics::{Recorder, Text};
 use metrics_debugging::DebuggingRecorder;
 use metrics_trees::{Child, RouterBuilder};
 use std::alloc::Global;
+use std::collections::VecDeque;
 
 /// The pattern that a word spells.
 fn pattern_text(word: &Text) -> &str
@@ -25,10 +26,10 @@ fn pattern_text(word: &Text) -> &str
     if text == "-" { "" } else { text }
 }
 
-/// Adds a route, to a target that was named, or to the next one from the end of the list. Returns how many are named then.
+/// Adds a route, to a target that was named, or to the next one of the list. Returns how many are named then.
 fn add_one(
     builder: &mut RouterBuilder<DebuggingRecorder>,
-    targets: &mut Vec<Level>,
+    targets: &mut VecDeque<Level>,
     named: u64,
     route: &RouteWord,
 ) -> Result<u64, LineError>
@@ -44,16 +45,13 @@ fn add_one(
 {
     let kinds = route.kinds;
     let pattern = pattern_text(&route.pattern);
-    if route.target < named {
+    if route.target != named {
         return match builder.add_route_to(kinds, pattern, route.target as usize) {
             Ok(()) => Ok(named),
             Err(error) => Err(LineError::from(error)),
         };
     }
-    if route.target > named {
-        return Err(LineError::Bad);
-    }
-    let Some(Level { child, levels: _ }) = targets.pop() else {
+    let Some(Level { child, levels: _ }) = targets.pop_front() else {
         return Err(LineError::Bad);
     };
     match builder.add_route(kinds, pattern, child) {
@@ -62,21 +60,21 @@ fn add_one(
     }
 }
 
-/// Adds routes, to targets from the end of the list, all of which have to be named.
+/// Adds routes to the targets, all of which have to be named.
 fn add_routes(
     builder: &mut RouterBuilder<DebuggingRecorder>,
-    targets: &mut Vec<Level>,
+    targets: &mut VecDeque<Level>,
     routes: &[RouteWord],
 ) -> Result<(), LineError>
     requires are_routes { AllByRecursion IsRoute routes.now }
     requires alone { length (router_recorders builder.old) ≡ 1 }
     requires none { HasRoutes builder.old [] }
-    requires fits { books_in (router_recorders builder.old) ≤ 65536 }
     ensures routes { OnOk result (HasRoutes builder.new (map route_of routes.now)) }
     ensures all { MatchResult result
-        (λ done. AreRouted (router_recorders builder.old) (router_recorders builder.new) targets.old.items routes.now)
+        (λ done. NameTargets (length targets.old.items) 0 routes.now
+        × (router_recorders builder.new ≡ router_recorders builder.old ++ level_meanings targets.old.items))
         (λ e. e ≡ IsBadLine → NameTargets (length targets.old.items) 0 routes.now
-        → books_in (in_all (router_recorders builder.old) targets.old.items) ≤ 65536 → ⊥) }
+        → books_in (router_recorders builder.old ++ level_meanings targets.old.items) ≤ 65536 → ⊥) }
 {
     let mut named: u64 = 0;
     for route in routes {
@@ -89,27 +87,28 @@ fn add_routes(
     }
 }
 
-/// Returns a router over recorders, of which the last is the default.
+/// Returns a router over recorders, of which the first is the default.
 pub fn router_over(
     alloc: Global,
-    mut taken: Vec<Level>,
+    mut taken: VecDeque<Level>,
     routes: &[RouteWord],
 ) -> Result<Child<DebuggingRecorder>, LineError>
     requires are_routes { AllByRecursion IsRoute routes.now }
     requires some { 0 < length taken.items }
-    ensures { let all = level_meanings (reverse taken.items) in MatchResult result
+    ensures { let all = level_meanings taken.items in MatchResult result
         (λ c. NameTargets (length taken.items - 1) 0 routes.now × (books_in all ≤ 65536)
         × (⟦<Child<DebuggingRecorder> as Recorder>⟧.meaning c ≡ routed (map route_of routes.now) all))
         (λ e. e ≡ IsBadLine → NameTargets (length taken.items - 1) 0 routes.now → books_in all ≤ 65536 → ⊥) }
 {
-    let Some(Level { child, levels: _ }) = taken.pop() else {
+    let Some(Level { child, levels: _ }) = taken.pop_front() else {
         return Err(LineError::Memory);
     };
-    // The trait bounds the number of books when it is asked for.
-    let _books = child.books();
     let mut builder = RouterBuilder::from_recorder(alloc, child);
     if let Err(error) = add_routes(&mut builder, &mut taken, routes) {
         return Err(refusing(error, builder));
     }
-    Ok(Child::router(builder.build())?)
+    let router = Child::router(builder.build())?;
+    // The trait bounds the number of books when it is asked for.
+    let _books = router.books();
+    Ok(router)
 }

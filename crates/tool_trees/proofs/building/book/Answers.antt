@@ -6,5 +6,5 @@ use Rattle.tool_trees.proofs.building.book.Goals as goal
 head_same : (c d : Content) → c ∷ [] ≡ d ∷ [] → c ≡ d
 head_same c d e = cc
 
-pub returns : goal.returns
-returns c = c.leaf.ensures ∙ ap one_book (head_same _ _ c.in_ok-book.ensures.new_book.contents)
+pub returns-in-Ok : goal.returns-in-Ok
+returns-in-Ok c = c.leaf.ensures ∙ ap one_book (head_same _ _ c.in-Ok.ensures.new_book.contents)

@@ -1,15 +1,11 @@
 -- What was taken was at the end.
-use Rattle.std.proofs.Common.{◌≡◌, ◌-◌, ◌≤◌, ◌++◌, length, reverse}
+use Rattle.std.proofs.Common.{◌≡◌, ◌++◌, length}
 use Rattle.tool_trees.specs.Doing.{most_of}
 use Rattle.tool_trees.proofs.building.take_top.Given as goal
 
-abbrev pub invariant-loop-stack : goal.invariant-loop-stack
-invariant-loop-stack l = record {
-  split : l.initial.stack.items ≡ l.stack.items ++ reverse l.taken.items;
-  within : length l.taken.items ≤ l.count;
-  most : l.most ≡ most_of (reverse l.taken.items);
-  low : l.most ≤ 1000;
+abbrev pub invariant-loop-number : goal.invariant-loop-number
+invariant-loop-number l = record {
+  split : l.initial.stack.items ≡ l.stack.items ++ l.taken.items;
+  number : length l.taken.items ≡ l._number;
+  most : l.most ≡ most_of l.taken.items;
 }
-
-abbrev pub decreases-loop-stack : goal.decreases-loop-stack
-decreases-loop-stack l = l.count - length l.taken.items

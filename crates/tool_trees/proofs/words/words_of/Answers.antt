@@ -1,10 +1,12 @@
-use Rattle.tool_trees.proofs.Lines.{positive, no_words, next_of, words_more}
+use Rattle.std.proofs.Common.{sym, ◌∙◌}
+use Rattle.std.proofs.lemmas.Bool.{eqb-false}
+use Rattle.tool_trees.proofs.Lines.{no_words, next_of, words_more}
 use Rattle.tool_trees.proofs.words.words_of.Goals as goal
 
 pub returns-in_default : goal.returns-in_default
 returns-in_default g c = λ xs h e.
     let (k, ks, i) = c.loop-rest.invariant.left xs h e in
-    no_words g.T.Word.spelled _ k i (positive _ _ c.is_empty.ensures c.loop-rest-test.true) c.in_default.ensures
+    no_words g.T.Word.spelled _ k i (eqb-false _ _ (sym c.is_empty.ensures ∙ c.loop-rest-test.true)) c.in_default.ensures
 
 pub returns-in-None : goal.returns-in-None
 returns-in-None g c = λ xs h e.
