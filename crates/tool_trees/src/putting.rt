@@ -58,7 +58,7 @@ fn made_of(
     }
 }
 
-/// Does what a tree line says: replaces recorders at the top of the stack by one over them. The deepest is the first.
+/// Does what a line other than `end` says: replaces recorders at the top of the stack by one over them, the deepest first.
 fn put_line(alloc: Global, stack: &mut Vec<Level>, said: &TreeLine) -> Result<bool, LineError>
     requires { CanBeSpelled said.now }
     ensures { (bytes : List ℕ) → Spells bytes said.now → (bytes ≡ spelling line.End → ⊥)
