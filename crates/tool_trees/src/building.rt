@@ -109,6 +109,9 @@ pub fn take_top(
         × (taken.1 ≡ most_of taken.0.items))
         (λ e. e ≡ IsBadLine → length stack.old.items < count) }
 {
+    if count > stack.len() as u64 {
+        return Err(LineError::Bad);
+    }
     let mut taken = VecDeque::new(alloc);
     let mut most: u64 = 0;
     for _number in 0..count {
