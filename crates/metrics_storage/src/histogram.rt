@@ -4,28 +4,28 @@
 //! can't pass.
 ghost use Rattle.std.specs.Prelude.{◌≡◌, ◌+◌, ◌^◌, ◌<◌, ◌≤◌, [], ◌∷◌, length, replicate, None};
 ghost use Rattle.std.specs.Prelude.{IfOk, IsErr, IsTrue, MatchResult, MatchOption, Ok, OnOk, ◌↔◌};
-ghost use Rattle.metrics_storage.specs.Histogram.{Distribution, sum_of, no_samples, with_samples, rank, sum_up_to, buckets_of};
+ghost use Rattle.metrics_storage.specs.Histogram.{Distribution, sum_of, no_samples, with_samples, sum_up_to, buckets_of};
+ghost use Rattle.std.specs.Arc.{arc_value};
 ghost use Rattle.std.specs.Prelude.{All, FitsSigned};
 ghost use Rattle.std.specs.Int.{w64};
-ghost use Rattle.metrics_storage.specs.Histogram.{ascending, place_added, order_of};
+ghost use Rattle.metrics_storage.specs.Histogram.{ascending, order_of};
 ghost use Rattle.metrics_storage.specs.Histogram.{ranked, all_ranked, total, IsSumOf, own_ranks};
 ghost use Rattle.metrics_storage.specs.Histogram.{TakesBuckets, ShowsBuckets, bounds_of, merged, both_ranked};
 ghost use Rattle.metrics.specs.declared.error.Error.TheVariants.{Memory as OutOfMemory, CountFull};
 
+use crate::scale::{Scale, rank_of};
 use metrics::Error;
 use std::alloc::{AllocError, Global};
 use std::marker::Model;
+use std::sync::Arc;
 
 /// For each of its bounds the number of samples that are at most that bound, and the count and the sum of all.
 ///
 /// The bounds keep the caller's order. They may fall, and they may be repeated.
 #[derive(Drop)]
 pub struct Histogram {
-    bounds: Vec<i64>,
-    /// The rank of each bound: how many of the bounds are below it.
-    own: Vec<usize>,
-    /// The places of the bounds in ascending order, equal bounds once.
-    order: Vec<usize>,
+    /// A clone has the same.
+    scale: Arc<Scale>,
     /// At each rank the number of samples above so many bounds. A bucket is the sum up to its bound's own rank. So a sample
     /// changes one number, whatever the order of the bounds.
     ranks: Vec<u64>,
@@ -36,11 +36,10 @@ pub struct Histogram {
 impl Model for Histogram {
     ghost Value = { Distribution };
 
-    ghost view = { λ h. record { buckets = buckets_of h.bounds.items h.ranks.items; count = h.count; sum = h.sum } };
+    ghost view = { λ h. record { buckets = buckets_of (arc_value h.scale) h.ranks.items; count = h.count; sum = h.sum } };
 
-    ghost invariant = { λ h. (length h.ranks.items ≡ length h.bounds.items + 1) × (total h.ranks.items ≡ h.count)
-        × (h.count < 2 ^ 64) × IsSumOf h.count h.sum × (h.own.items ≡ own_ranks h.bounds.items)
-        × All (FitsSigned w64) h.bounds.items × (h.order.items ≡ order_of h.bounds.items) };
+    ghost invariant = { λ h. (length h.ranks.items ≡ length (arc_value h.scale) + 1)
+        × (total h.ranks.items ≡ h.count) × (h.count < 2 ^ 64) × IsSumOf h.count h.sum };
 }
 
 impl Histogram {
@@ -57,13 +56,23 @@ impl Histogram {
             return Ok(None);
         }
         Ok(Some(Histogram {
-            bounds: copy_of(alloc, bounds)?,
-            own: ranks_of(alloc, bounds)?,
-            order: order_of(alloc, bounds)?,
+            scale: Arc::new(alloc, Scale::new(alloc, bounds)?)?,
             ranks: zeros(alloc, bounds.len() + 1)?,
             count: 0,
             sum: 0,
         }))
+    }
+
+    /// Makes a histogram without samples at the same bounds, which both share.
+    pub fn new_like(&self) -> Result<Histogram, AllocError>
+        ensures { IfOk result (λ h. h ≡ no_samples (bounds_of self.now)) }
+    {
+        Ok(Histogram {
+            scale: self.scale.clone()?,
+            ranks: zeros(*self.ranks.allocator(), self.ranks.len())?,
+            count: 0,
+            sum: 0,
+        })
     }
 
     /// Returns the bounds, in the caller's order.
@@ -71,7 +80,7 @@ impl Histogram {
         ensures value { result.now ≡ bounds_of self.now }
         ensures fits { All (FitsSigned w64) (bounds_of self.now) }
     {
-        &self.bounds
+        self.scale.bounds()
     }
 
     /// Returns the sum of all samples.
@@ -95,8 +104,8 @@ impl Histogram {
     {
         Ok(bucket_counts(
             *self.ranks.allocator(),
-            &self.bounds,
-            &self.own,
+            self.scale.bounds(),
+            self.scale.own(),
             &self.ranks,
         )?)
     }
@@ -109,7 +118,7 @@ impl Histogram {
         requires { TakesBuckets F.FnMut f self.now.buckets }
         ensures { ShowsBuckets F.FnMut f self.now.buckets result }
     {
-        show(&self.bounds, &self.own, &self.ranks, f)
+        show(self.scale.bounds(), self.scale.own(), &self.ranks, f)
     }
 
     /// Calls `f` once for each bound, with the number of samples at most that bound, in ascending order, and returns it as the
@@ -118,7 +127,8 @@ impl Histogram {
         requires { TakesBuckets F.FnMut f (ascending self.now.buckets) }
         ensures { ShowsBuckets F.FnMut f (ascending self.now.buckets) result }
     {
-        show_in_order(&self.bounds, &self.own, &self.order, &self.ranks, f)
+        let scale = &self.scale;
+        show_in_order(scale.bounds(), scale.own(), scale.order(), &self.ranks, f)
     }
 
     /// Adds a sample. Fails with `Error::CountFull` if the count would pass 2^64 - 1.
@@ -130,7 +140,7 @@ impl Histogram {
         if self.count == u64::MAX {
             return Err(Error::CountFull);
         }
-        add_sample(&self.bounds, &mut self.ranks, sample);
+        add_sample(self.scale.bounds(), &mut self.ranks, sample);
         self.count += 1;
         self.sum += i128::from(sample);
         Ok(())
@@ -145,7 +155,7 @@ impl Histogram {
         if u64::MAX - self.count < samples.len() as u64 {
             return Err(Error::CountFull);
         }
-        add_samples(&self.bounds, &mut self.ranks, samples);
+        add_samples(self.scale.bounds(), &mut self.ranks, samples);
         self.sum += sum_all(samples);
         self.count += samples.len() as u64;
         Ok(())
@@ -155,7 +165,7 @@ impl Histogram {
     pub fn same_bounds(&self, other: &Histogram) -> bool
         ensures { IsTrue result ↔ (bounds_of self.now ≡ bounds_of other.now) }
     {
-        self.bounds == other.bounds
+        self.scale.bounds() == other.scale.bounds()
     }
 
     /// Adds the samples of a histogram with the same bounds in the same order. It allocates nothing.
@@ -184,9 +194,7 @@ impl Clone for Histogram {
 
     fn clone(&self) -> Result<Histogram, AllocError> {
         Ok(Histogram {
-            bounds: self.bounds.clone()?,
-            own: self.own.clone()?,
-            order: self.order.clone()?,
+            scale: self.scale.clone()?,
             ranks: self.ranks.clone()?,
             count: self.count,
             sum: self.sum,
@@ -199,61 +207,6 @@ fn zeros(alloc: Global, len: usize) -> Result<Vec<u64>, AllocError>
     ensures { IfOk result (λ v. v.items ≡ replicate len 0) }
 {
     Vec::from_elem(alloc, 0, len)
-}
-
-/// A copy of the bounds, each of which has been read.
-fn copy_of(alloc: Global, bounds: &[i64]) -> Result<Vec<i64>, AllocError>
-    ensures same { IfOk result (λ v. v.items ≡ bounds.now) }
-    ensures fits { IfOk result (λ _. All (FitsSigned w64) bounds.now) }
-{
-    let mut copy = Vec::with_capacity(alloc, bounds.len())?;
-    for bound in bounds {
-        copy.push(*bound)?;
-    }
-    Ok(copy)
-}
-
-/// Adds a bound's place before those of greater bounds, unless an equal bound is there.
-fn add_place(bounds: &[i64], at: usize, order: &mut Vec<usize>) -> Result<(), AllocError>
-    requires within { at < length bounds.now }
-    requires order { All (λ k. k < length bounds.now) order.old.items }
-    ensures { OnOk result (order.new.items ≡ place_added bounds.now at order.old.items) }
-{
-    let bound = bounds[at];
-    for i in 0..order.len() {
-        let other = bounds[order[i]];
-        if bound < other {
-            order.insert(i, at)?;
-            return Ok(());
-        }
-        if bound == other {
-            return Ok(());
-        }
-    }
-    order.push(at)?;
-    Ok(())
-}
-
-/// The places of the bounds in ascending order, equal bounds once.
-fn order_of(alloc: Global, bounds: &[i64]) -> Result<Vec<usize>, AllocError>
-    ensures { IfOk result (λ v. v.items ≡ order_of bounds.now) }
-{
-    let mut order = Vec::with_capacity(alloc, bounds.len())?;
-    for at in 0..bounds.len() {
-        add_place(bounds, at, &mut order)?;
-    }
-    Ok(order)
-}
-
-/// The rank of each bound.
-fn ranks_of(alloc: Global, bounds: &[i64]) -> Result<Vec<usize>, AllocError>
-    ensures { IfOk result (λ v. v.items ≡ own_ranks bounds.now) }
-{
-    let mut ranks = Vec::with_capacity(alloc, bounds.len())?;
-    for bound in bounds {
-        ranks.push(rank_of(bounds, *bound))?;
-    }
-    Ok(ranks)
 }
 
 /// Each bound with its count.
@@ -367,18 +320,6 @@ fn lowered(ranks: &[u64], from: usize, sum: u64, to: usize) -> u64
         sum -= ranks[i];
     }
     sum
-}
-
-/// How many of the bounds are below the sample.
-fn rank_of(bounds: &[i64], sample: i64) -> usize
-    ensures value { result ≡ rank bounds.now sample }
-    ensures most { result ≤ length bounds.now }
-{
-    let mut rank = 0usize;
-    for bound in bounds {
-        rank += usize::from(*bound < sample);
-    }
-    rank
 }
 
 /// Counts a sample at its rank.

@@ -7,6 +7,7 @@ mod histogram;
 mod laws;
 mod places;
 pub mod reservoir;
+mod scale;
 
 pub use block::{BLOCK_SIZE, Block};
 pub use bucket::OwnedBucket;

@@ -1,14 +1,14 @@
-use Rattle.std.proofs.Common.{◌≡◌, ◌+◌, length, refl, ap, sym, ◌∙◌, subst, arith, rules, w64}
-use Rattle.std.specs.Prelude.{All, FitsSigned}
+use Rattle.std.proofs.Common.{◌≡◌, ◌+◌, length, refl, ap, sym, ◌∙◌, arith, rules}
+use Rattle.std.specs.Arc.{arc_value}
 use Rattle.std.proofs.lemmas.List.{length-replicate}
 use Rattle.std.proofs.lemmas.Int.{ints}
-use Rattle.metrics_storage.specs.Histogram.{total, buckets_of, own_ranks, order_of}
+use Rattle.metrics_storage.specs.Histogram.{total, buckets_of}
 use Rattle.metrics_storage.proofs.Counting.{total-zeros, buckets-zeros, same_distribution}
 use Rattle.metrics_storage.proofs.histogram.Histogram.new.Goals as goal
 
 -- the bounds are the caller's
-held : (c : goal.In_ok-zeros) → c.in_ok-copy_of.field-0.items ≡ c.args.bounds.now
-held c = (c.in_ok-copy_of.ensures {u = tt}).same
+held : (c : goal.In_ok-zeros) → arc_value c.in_ok-new-2.field-0 ≡ c.args.bounds.now
+held c = (c.in_ok-new-2.ensures {u = tt}).ok ∙ (c.in_ok-new.ensures {u = tt}).same
 
 pub invariant_of-result : goal.invariant_of-result
 invariant_of-result c =
@@ -17,12 +17,9 @@ invariant_of-result c =
       ap total zeros ∙ total-zeros n,
       omega arith,
       (omega (arith, ints), omega (arith, ints)),
-      c.in_ok-ranks_of.ensures {u = tt} ∙ ap own_ranks (sym (held c)),
-      subst (All (FitsSigned w64)) (sym (held c)) (c.in_ok-copy_of.ensures {u = tt}).fits,
-      c.in_ok-order_of.ensures {u = tt} ∙ ap order_of (sym (held c)),
     )
 
 pub returns : goal.returns
 returns c =
     let bounds = c.args.bounds.now in
-    (search rules, same_distribution ((λ j. buckets_of (held c j) (c.in_ok-zeros.ensures {u = tt} j)) ∙ buckets-zeros bounds (length bounds + 1)) refl refl, (c.in_ok-copy_of.ensures {u = tt}).fits)
+    (search rules, same_distribution ((λ j. buckets_of (held c j) (c.in_ok-zeros.ensures {u = tt} j)) ∙ buckets-zeros bounds (length bounds + 1)) refl refl, (c.in_ok-new.ensures {u = tt}).fits)

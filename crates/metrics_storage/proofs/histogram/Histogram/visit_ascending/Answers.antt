@@ -7,10 +7,10 @@ show_in_order-requires-clause-fits g c = let h = c.self.invariant in let is = ap
 
 pub show_in_order-requires-clause-takes : goal.show_in_order-requires-clause-takes
 show_in_order-requires-clause-takes g c =
-    let is = (λ j. ascending (buckets_of (c.deref.ensures.value j) (c.deref-4.ensures.value j))) ∙ ap (λ h. ascending h.buckets) c.self.view_is in
+    let is = (λ j. ascending (buckets_of ((c.bounds.ensures.value ∙ c.deref.ensures) j) (c.deref-4.ensures.value j))) ∙ ap (λ h. ascending h.buckets) c.self.view_is in
     subst (TakesBuckets g.F.FnMut c.args.f) (sym is) c.requires
 
 pub returns : goal.returns
 returns g c =
-    let is = (λ j. ascending (buckets_of (c.deref.ensures.value j) (c.deref-4.ensures.value j))) ∙ ap (λ h. ascending h.buckets) c.self.view_is in
+    let is = (λ j. ascending (buckets_of ((c.bounds.ensures.value ∙ c.deref.ensures) j) (c.deref-4.ensures.value j))) ∙ ap (λ h. ascending h.buckets) c.self.view_is in
     subst (λ bs. ShowsBuckets g.F.FnMut c.args.f bs c.show_in_order.result) is c.show_in_order.ensures

@@ -4,7 +4,7 @@ use Rattle.std.proofs.Math.Seq.{take-suc}
 use Rattle.std.proofs.lemmas.List.{length-map}
 use Rattle.metrics_storage.specs.Histogram.{rank, own_ranks}
 use Rattle.metrics_storage.proofs.Counting.{get-map}
-use Rattle.metrics_storage.proofs.histogram.ranks_of.Goals as goal
+use Rattle.metrics_storage.proofs.scale.ranks_of.Goals as goal
 
 pub loop-bound-smaller : goal.loop-bound-smaller
 loop-bound-smaller c = omega (arith, c.loop-bound-test.true)

@@ -1,7 +1,7 @@
 -- The places so far have lesser bounds.
 use Rattle.std.proofs.Common.{◌≡◌, ◌++◌, take, drop}
 use Rattle.metrics_storage.specs.Histogram.{place_added}
-use Rattle.metrics_storage.proofs.histogram.add_place.Given as goal
+use Rattle.metrics_storage.proofs.scale.add_place.Given as goal
 
 abbrev pub invariant-loop-i : goal.invariant-loop-i
 invariant-loop-i l =

@@ -2,7 +2,7 @@ use Rattle.std.proofs.Common.{◌≡◌, suc, ◌+◌, ◌<◌, length, ap, sym,
 use Rattle.std.specs.Prelude.{All}
 use Rattle.metrics_storage.specs.Histogram.{place_added, order_up_to}
 use Rattle.metrics_storage.proofs.Ordering.{order-within}
-use Rattle.metrics_storage.proofs.histogram.order_of.Goals as goal
+use Rattle.metrics_storage.proofs.scale.order_of.Goals as goal
 
 pub add_place-requires-clause-order : goal.add_place-requires-clause-order
 add_place-requires-clause-order c =

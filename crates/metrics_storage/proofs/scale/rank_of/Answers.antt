@@ -3,7 +3,7 @@ use Rattle.std.specs.Prelude.{Bool, true, false, int_lt}
 use mir.Val.{bool_byte}
 use Rattle.std.proofs.Math.Facts.{to_z-of_z}
 use Rattle.metrics_storage.proofs.Counting.{rank-next}
-use Rattle.metrics_storage.proofs.histogram.rank_of.Goals as goal
+use Rattle.metrics_storage.proofs.scale.rank_of.Goals as goal
 
 byte_is : (b : Bool) → bool_byte b ≡ cond b 1 0
 byte_is true = refl
