@@ -20,12 +20,12 @@ use Rattle.metrics_bucket.specs.BucketState.{other, place_index, walk, holding, 
 use Rattle.metrics_bucket.specs.History.{HasVisit, CanLeave, turn_at}
 use Rattle.metrics_bucket.specs.Blocks.{valued}
 use Rattle.metrics_bucket.specs.declared.view.Push.{Push}
-use Rattle.metrics_bucket.specs.WalkedPlaces.{with_walk, WalkKind, reads, clears, walking, visited, walk_of, IsWalked, Visits, Walks, Leaves}
+use Rattle.metrics_bucket.specs.WalkedPlaces.{with_walk, WalkKind, reads, clears, walking, visited, walk_of, IsWalked, Walks}
 use Rattle.metrics_bucket.specs.ClearedPlaces.{has_taken, IsSideTaken}
 use Rattle.metrics_bucket.specs.Places.{Reaches, Finds, Covers}
 use Rattle.metrics_bucket.proofs.Blocks.{chunk, chunks_from, chunks_front, drop_more, part_next}
 use Rattle.metrics_bucket.specs.Steps.{Seated}
-use Rattle.metrics_bucket.specs.WalkSteps.{IsValueOf, IsClearing}
+use Rattle.metrics_bucket.specs.WalkSteps.{IsValueOf, IsMarkOf, IsClearing}
 use Rattle.metrics_bucket.proofs.AllowedVisits.{value_word}
 use Rattle.metrics_bucket.specs.Facts.{weigh, weigh_pushes, weigh_walks}
 use Rattle.metrics_bucket.specs.declared.view.Walk.{Walk}
@@ -93,8 +93,40 @@ place_walked kind m0 m1 m2 s at r visits h e1 e2 =
     in
     e2 ∙ ((λ i. (holding m1.0 (last i), m1.1)) ∙ ap (λ (z : Seated). (holding z.0 (walking kind s (set visits at (Read r))), z.1)) e1)
 
-pub walks_none : (kind : WalkKind) (seen : ℕ → Visit) (m : Seated) (side start b : ℕ) → m.0.hold ≡ walking kind side (visits_of m.0.hold) → b ≤ start → Visits kind seen m m side start b
-walks_none kind seen m side start b h l = record {
+-- what leaving a place needs to know of it
+pub place_read : (kind : WalkKind) (m0 m1 : Seated) (s at x mark : ℕ) (visits : List Visit) → m0.0.hold ≡ walking kind s visits → get_elem? visits at ≡ some Unseen → IsMarkOf m0.0 mark at
+    → m1 ≡ (holding m0.0 (walking kind s (set visits at (Read x))), m0.1)
+    → IsMarkOf m1.0 mark at × (m1.0.hold ≡ walking kind (side_of m1.0.hold) (visits_of m1.0.hold)) × (get_elem? (visits_of m1.0.hold) at ≡ some (Read x))
+place_read kind m0 m1 s at x mark visits h unseen is e =
+    let new : List Visit = set visits at (Read x) in
+    let hold : m1.0.hold ≡ walking kind s new = ap (λ (z : Seated). z.0.hold) e in
+    let now : visits_of m1.0.hold ≡ new = ap visits_of hold ∙ visits_walking kind s new in
+    let side : side_of m1.0.hold ≡ s = ap side_of hold ∙ side_walking kind s new in
+    let sides : side_of m0.0.hold ≡ side_of m1.0.hold = ap side_of h ∙ (side_walking kind s visits ∙ sym side) in
+    let places : m0.0.places ≡ m1.0.places = sym (ap (λ (z : Seated). z.0.places) e) in (
+      is ∙ (λ i. 2 + (places i + places i) + place_index (places i) (sides i) at),
+      hold ∙ (λ i. walking kind (sym side i) (sym now i)),
+      ap (λ (z : List Visit). get_elem? z at) now ∙ visit_there visits at Unseen (Read x) unseen,
+    )
+
+-- and then left
+pub place_left : (kind : WalkKind) (m0 m1 m2 : Seated) (s at x : ℕ) (visits : List Visit) → m1 ≡ (holding m0.0 (walking kind s (set visits at (Read x))), m0.1)
+    → m2 ≡ (holding m1.0 (put_visit m1.0.hold at (visited kind x)), m1.1) → m2 ≡ (holding m0.0 (walking kind s (set visits at (visited kind x))), m0.1)
+place_left kind m0 m1 m2 s at x visits e1 e2 =
+    let new : Visit = visited kind x in
+    let last : put_visit m1.0.hold at new ≡ walking kind s (set visits at new) =
+    ap (λ (z : Seated). put_visit z.0.hold at new) e1 ∙ (put_walking kind s at (set visits at (Read x)) new ∙ ap (walking kind s) (set_twice visits at (Read x) new))
+    in
+    e2 ∙ ((λ i. (holding m1.0 (last i), m1.1)) ∙ ap (λ (z : Seated). (holding z.0 (walking kind s (set visits at new)), z.1)) e1)
+
+-- a reading walk leaves a place as it found it
+pub left_read : (visits : List Visit) (at x : ℕ) → get_elem? visits at ≡ some (Read x) → set visits at (Read x) ≡ visits
+left_read [] at x e = refl
+left_read (c ∷ cs) zero x e = λ i. sym (some-injective c (Read x) e) i ∷ cs
+left_read (c ∷ cs) (suc at) x e = λ i. c ∷ left_read cs at x e i
+
+pub walks_none : (kind : WalkKind) (m : Seated) (side start b : ℕ) → m.0.hold ≡ walking kind side (visits_of m.0.hold) → b ≤ start → Walks kind m m side start b
+walks_none kind m side start b h l = record {
   me = λ i. (holding m.0 (h i), m.1);
   long = refl;
   found = λ i j k. absurd (omega arith);
@@ -102,86 +134,28 @@ walks_none kind seen m side start b h l = record {
 }
 
 -- the walk read one more place
-pub walks_more : (kind : WalkKind) (seen : ℕ → Visit) (m m1 m2 : Seated) (side start at x : ℕ) → Visits kind seen m m1 side start at → get_elem? (visits_of m1.0.hold) at ≡ some Unseen → start ≤ at
-    → m2 ≡ (holding m1.0 (walking kind side (set (visits_of m1.0.hold) at (seen x))), m1.1) → Visits kind seen m m2 side start (at + 1)
-walks_more kind seen m m1 m2 side start at x c there l e =
+pub walks_more : (kind : WalkKind) (m m1 m2 : Seated) (side start at x : ℕ) → Walks kind m m1 side start at → get_elem? (visits_of m1.0.hold) at ≡ some Unseen → start ≤ at
+    → m2 ≡ (holding m1.0 (walking kind side (set (visits_of m1.0.hold) at (visited kind x))), m1.1) → Walks kind m m2 side start (at + 1)
+walks_more kind m m1 m2 side start at x c there l e =
     let visits : List Visit = visits_of m1.0.hold in
-    let new : List Visit = set visits at (seen x) in
+    let new : List Visit = set visits at (visited kind x) in
     let now : visits_of m2.0.hold ≡ new = ap (λ (z : Seated). visits_of z.0.hold) e ∙ visits_walking kind side new in
     record {
       me = e ∙ (ap (λ (z : Seated). (holding z.0 (walking kind side new), z.1)) c.me ∙ (λ i. (holding m.0 (walking kind side (sym now i)), m.1)));
-      long = ap length now ∙ (length-set visits at (seen x) ∙ c.long);
-      found = λ i a b. dite (ℕ_discrete i at)
-          (λ here. (x, ap (λ (z : List Visit). get_elem? z i) now ∙ ((λ k. get_elem? new (here k)) ∙ visit_there visits at Unseen (seen x) there)))
-          (λ apart. let t = c.found i a (omega arith) in (t.0, ap (λ (z : List Visit). get_elem? z i) now ∙ (set_else visits at i (seen x) apart ∙ t.1)));
-      others = λ i o.
-          let apart : i ≢ at = λ same. ⊎_elim (λ (z : i < start). absurd (omega arith)) (λ (z : at + 1 ≤ i). absurd (omega arith)) o in
-          let o' : (i < start) ⊎ (at ≤ i) = ⊎_elim (λ (z : i < start). inl z) (λ (z : at + 1 ≤ i). inr (omega arith)) o in
-          ap (λ (z : List Visit). get_elem? z i) now ∙ (set_else visits at i (seen x) apart ∙ c.others i o');
-    }
-
-pub values_set : (visits : List Visit) (i x : ℕ) → values_in (set visits i (Read x)) ≡ set (values_in visits) i x
-values_set [] i x = refl
-values_set (c ∷ cs) zero x = refl
-values_set (c ∷ cs) (suc i) x = λ k. value_in c ∷ values_set cs i x k
-
-values_kept : (kind : WalkKind) (visits : List Visit) (i x : ℕ) → get_elem? visits i ≡ some (Read x) → values_in (set visits i (visited kind x)) ≡ values_in visits
-values_kept kind [] i x e = refl
-values_kept kind (c ∷ cs) zero x e = let same : value_in (visited kind x) ≡ value_in c = value_visited kind x ∙ sym (ap value_in (some-injective c (Read x) e)) in λ k. same k ∷ values_in cs
-values_kept kind (c ∷ cs) (suc i) x e = λ k. value_in c ∷ values_kept kind cs i x e k
-
-pub leaves_none : (kind : WalkKind) (m : Seated) (side start : ℕ) → m.0.hold ≡ walking kind side (visits_of m.0.hold) → Leaves kind m m side start start
-leaves_none kind m side start h = record {
-  me = λ i. (holding m.0 (h i), m.1);
-  long = refl;
-  found = λ i x j k e. absurd (omega arith);
-  others = λ i _. refl;
-  values = refl;
-}
-
--- a reading walk leaves its places as it found them
-pub leaves_read : (m : Seated) (side start end : ℕ) → m.0.hold ≡ Reading side (visits_of m.0.hold) → Leaves reads m m side start end
-leaves_read m side start end h = record {
-  me = λ i. (holding m.0 (h i), m.1);
-  long = refl;
-  found = λ i x j k e. e;
-  others = λ i _. refl;
-  values = refl;
-}
-
--- the walk is done with one more place that it had read
-pub leaves_more : (kind : WalkKind) (m m1 m2 : Seated) (side start at x : ℕ) → Leaves kind m m1 side start at → get_elem? (visits_of m1.0.hold) at ≡ some (Read x) → start ≤ at
-    → m2 ≡ (holding m1.0 (put_visit m1.0.hold at (visited kind x)), m1.1) → Leaves kind m m2 side start (at + 1)
-leaves_more kind m m1 m2 side start at x c there l e =
-    let visits : List Visit = visits_of m1.0.hold in
-    let new : List Visit = set visits at (visited kind x) in
-    let hold : m2.0.hold ≡ walking kind side new = next_hold kind m1 m2 side at visits (visited kind x) (ap (λ (z : Seated). z.0.hold) c.me) e in
-    let now : visits_of m2.0.hold ≡ new = ap visits_of hold ∙ visits_walking kind side new in
-    let put : put_visit m1.0.hold at (visited kind x) ≡ walking kind side new = ap (λ (z : Hold). put_visit z at (visited kind x)) (ap (λ (z : Seated). z.0.hold) c.me) ∙ put_walking kind side at visits (visited kind x) in
-    record {
-      me = e ∙ ((λ i. (holding m1.0 (put i), m1.1)) ∙ (ap (λ (z : Seated). (holding z.0 (walking kind side new), z.1)) c.me ∙ (λ i. (holding m.0 (walking kind side (sym now i)), m.1))));
       long = ap length now ∙ (length-set visits at (visited kind x) ∙ c.long);
-      found = λ i y a b f. dite (ℕ_discrete i at)
-          (λ here.
-          let same : get_elem? visits at ≡ some (Read y) = (λ k. get_elem? visits (sym here k)) ∙ (c.others i (inr (omega arith)) ∙ f) in
-          let one : x ≡ y = ap value_in (some-injective (Read x) (Read y) (sym there ∙ same)) in
-          ap (λ (z : List Visit). get_elem? z i) now ∙ ((λ k. get_elem? new (here k)) ∙ (visit_there visits at (Read x) (visited kind x) there ∙ (λ k. some (visited kind (one k))))))
-          (λ apart. ap (λ (z : List Visit). get_elem? z i) now ∙ (set_else visits at i (visited kind x) apart ∙ c.found i y a (omega arith) f));
+      found = λ i a b. dite (ℕ_discrete i at)
+          (λ here. (x, ap (λ (z : List Visit). get_elem? z i) now ∙ ((λ k. get_elem? new (here k)) ∙ visit_there visits at Unseen (visited kind x) there)))
+          (λ apart. let t = c.found i a (omega arith) in (t.0, ap (λ (z : List Visit). get_elem? z i) now ∙ (set_else visits at i (visited kind x) apart ∙ t.1)));
       others = λ i o.
           let apart : i ≢ at = λ same. ⊎_elim (λ (z : i < start). absurd (omega arith)) (λ (z : at + 1 ≤ i). absurd (omega arith)) o in
           let o' : (i < start) ⊎ (at ≤ i) = ⊎_elim (λ (z : i < start). inl z) (λ (z : at + 1 ≤ i). inr (omega arith)) o in
           ap (λ (z : List Visit). get_elem? z i) now ∙ (set_else visits at i (visited kind x) apart ∙ c.others i o');
-      values = ap values_in now ∙ (values_kept kind visits at x there ∙ c.values);
     }
 
--- what the walk read it left
-pub walks_left : (kind : WalkKind) (m m1 m2 : Seated) (side start end : ℕ) → Visits kind Read m m1 side start end → Leaves kind m1 m2 side start end → Walks kind m m2 side start end
-walks_left kind m m1 m2 side start end c l = record {
-  me = l.me ∙ ap (λ (z : Seated). (holding z.0 (walking kind side (visits_of m2.0.hold)), z.1)) c.me;
-  long = l.long ∙ c.long;
-  found = λ i a b. let t = c.found i a b in (t.0, l.found i t.0 a b t.1);
-  others = λ i o. l.others i o ∙ c.others i o;
-}
+pub values_set : (kind : WalkKind) (visits : List Visit) (i x : ℕ) → values_in (set visits i (visited kind x)) ≡ set (values_in visits) i x
+values_set kind [] i x = refl
+values_set kind (c ∷ cs) zero x = λ k. value_visited kind x k ∷ values_in cs
+values_set kind (c ∷ cs) (suc i) x = λ k. value_in c ∷ values_set kind cs i x k
 
 pub length_values : (visits : List Visit) → length (values_in visits) ≡ length visits
 length_values [] = refl

@@ -48,25 +48,9 @@ IsWalked kind m given list m' =
 abbrev pub AreUnseen : ℕ → ℕ → List Visit → Type 0
 AreUnseen start end visits = (i : ℕ) → start ≤ i → i < end → get_elem? visits i ≡ some Unseen
 
--- the walk read the places from start on, below end, and no other changed; each is now what `seen` makes of its value
-pub record Visits (kind : WalkKind) (seen : ℕ → Visit) (m m' : Seated) (side start end : ℕ) : Type 0 where
+-- the walk is done with the places from start on, below end, and no other changed
+pub record Walks (kind : WalkKind) (m m' : Seated) (side start end : ℕ) : Type 0 where
   pub me : m' ≡ (holding m.0 (walking kind side (visits_of m'.0.hold)), m.1)
   pub long : length (visits_of m'.0.hold) ≡ length (visits_of m.0.hold)
-  pub found : (i : ℕ) → start ≤ i → i < end → (x : ℕ) × (get_elem? (visits_of m'.0.hold) i ≡ some (seen x))
+  pub found : (i : ℕ) → start ≤ i → i < end → (x : ℕ) × (get_elem? (visits_of m'.0.hold) i ≡ some (visited kind x))
   pub others : (i : ℕ) → (i < start) ⊎ (end ≤ i) → get_elem? (visits_of m'.0.hold) i ≡ get_elem? (visits_of m.0.hold) i
-
--- the walk is done with these places
-abbrev pub Walks : WalkKind → Seated → Seated → ℕ → ℕ → ℕ → Type 0
-Walks kind m m' side start end = Visits kind (visited kind) m m' side start end
-
--- the walk is done with these places, which it had read, and no other changed
-pub record Leaves (kind : WalkKind) (m m' : Seated) (side start end : ℕ) : Type 0 where
-  pub me : m' ≡ (holding m.0 (walking kind side (visits_of m'.0.hold)), m.1)
-  pub long : length (visits_of m'.0.hold) ≡ length (visits_of m.0.hold)
-  pub found : (i x : ℕ) → start ≤ i → i < end → get_elem? (visits_of m.0.hold) i ≡ some (Read x) → get_elem? (visits_of m'.0.hold) i ≡ some (visited kind x)
-  pub others : (i : ℕ) → (i < start) ⊎ (end ≤ i) → get_elem? (visits_of m'.0.hold) i ≡ get_elem? (visits_of m.0.hold) i
-  pub values : values_in (visits_of m'.0.hold) ≡ values_in (visits_of m.0.hold)
-
--- the places from start on, below end, are read
-abbrev pub AreRead : ℕ → ℕ → List Visit → Type 0
-AreRead start end visits = (i : ℕ) → start ≤ i → i < end → (x : ℕ) × (get_elem? visits i ≡ some (Read x))

@@ -1,10 +1,13 @@
-//! What a walk does at places whose values it read.
-ghost use Rattle.std.specs.Prelude.{◌≡◌, ◌*◌, ◌<◌, ◌≤◌};
-ghost use Rattle.metrics_bucket.specs.BucketState.{visits_of};
-ghost use Rattle.metrics_bucket.specs.WalkedPlaces.{WalkKind, walking, AreRead, Leaves};
+//! What a walk does at a place whose value it read.
+ghost use Rattle.std.specs.Prelude.{◌≡◌, ℕ, ◌<◌};
+ghost use mathlib.Core.Option.{some};
+ghost use lib.ListN.{get_elem?};
+ghost use Rattle.metrics_bucket.specs.BucketState.{holding, put_visit, side_of, visits_of};
+ghost use Rattle.metrics_bucket.specs.WalkSteps.{IsMarkOf};
+ghost use Rattle.metrics_bucket.specs.WalkedPlaces.{WalkKind, walking, visited};
+ghost use Rattle.metrics_bucket.specs.declared.view.Visit.TheVariants.{Read};
 
-use crate::bucket::RuledBucket;
-use crate::sample::Sample;
+use crate::pen::SharedWords;
 use crate::steps::WipeMark;
 use crate::view::{Turn, View};
 use atomic_table::Seat;
@@ -13,24 +16,19 @@ use atomic_table::Seat;
 pub(crate) trait Walker {
     ghost kind: { WalkKind };
 
-    // Called for places whose values were read.
-    fn leave_places<T: Sample>(
-        bucket: &RuledBucket<T>,
-        seat: &mut Seat<Turn, View>,
-        side: usize,
-        start: usize,
-        end: usize,
-    )
-        requires home { (seat.old.table_id ≡ bucket.now.table) × (seat.old.me.0.places ≡ bucket.now.places)
-            × (0 < seat.old.me.0.weight) }
-        requires hold { (side < 2) × (start ≤ end) × (end ≤ bucket.now.places)
-            × (seat.old.me.0.hold ≡ walking kind side (visits_of seat.old.me.0.hold)) }
-        requires visits { AreRead start end (visits_of seat.old.me.0.hold) }
+    // Called for a place whose value was read. Its mark is this word.
+    fn leave_place(shared: &SharedWords, seat: &mut Seat<Turn, View>, mark: usize, at: usize)
+        requires home { (seat.old.table_id ≡ shared.now.table_id) × (0 < seat.old.me.0.weight) }
+        requires word { (mark < shared.now.table_id.words) × IsMarkOf seat.old.me.0 mark at }
+        requires hold { seat.old.me.0.hold
+            ≡ walking kind (side_of seat.old.me.0.hold) (visits_of seat.old.me.0.hold) }
+        requires read { (x : ℕ) × (get_elem? (visits_of seat.old.me.0.hold) at ≡ some (Read x)) }
         ensures table { seat.new.table_id ≡ seat.old.table_id }
-        ensures left { Leaves kind seat.old.me seat.new.me side start end };
+        ensures left { (x : ℕ) → get_elem? (visits_of seat.old.me.0.hold) at ≡ some (Read x)
+            → seat.new.me ≡ (holding seat.old.me.0 (put_visit seat.old.me.0.hold at (visited kind x)), seat.old.me.1) };
 }
 
-// It leaves the places as they were.
+// It leaves the place as it was.
 pub(crate) struct Reader;
 
 impl Walker for Reader {
@@ -38,16 +36,11 @@ impl Walker for Reader {
 
     ghost kind = { reads };
 
-    fn leave_places<T: Sample>(
-        _bucket: &RuledBucket<T>,
-        _seat: &mut Seat<Turn, View>,
-        _side: usize,
-        _start: usize,
-        _end: usize,
-    ) {}
+    #[inline(always)]
+    fn leave_place(_shared: &SharedWords, _seat: &mut Seat<Turn, View>, _mark: usize, _at: usize) {}
 }
 
-// It wipes the places' marks.
+// It wipes the place's mark.
 pub(crate) struct Clearer;
 
 impl Walker for Clearer {
@@ -55,17 +48,8 @@ impl Walker for Clearer {
 
     ghost kind = { clears };
 
-    fn leave_places<T: Sample>(
-        bucket: &RuledBucket<T>,
-        seat: &mut Seat<Turn, View>,
-        side: usize,
-        start: usize,
-        end: usize,
-    ) {
-        let shared = &bucket.table.shared;
-        let first = 2 + 2 * bucket.places + bucket.place_index(side, 0);
-        for at in start..end {
-            shared.store::<WipeMark>(seat, first + at, 0);
-        }
+    #[inline(always)]
+    fn leave_place(shared: &SharedWords, seat: &mut Seat<Turn, View>, mark: usize, _at: usize) {
+        shared.store::<WipeMark>(seat, mark, 0);
     }
 }

@@ -10,8 +10,8 @@ ghost use Rattle.metrics_bucket.specs.Places.{Reaches};
 ghost use Rattle.metrics_bucket.specs.WalkSteps.{IsMarkOf, IsValueOf};
 ghost use Rattle.metrics_bucket.specs.declared.view.Walk.{Walk};
 ghost use Rattle.metrics_bucket.specs.History.{HasVisit, CanLeave, turn_at};
-ghost use Rattle.metrics_bucket.specs.WalkedPlaces.{AreUnseen, IsWalked, Walks, walking, walk_of};
-ghost use Rattle.metrics_bucket.specs.declared.view.Visit.TheVariants.{Unseen, Marked, Read};
+ghost use Rattle.metrics_bucket.specs.WalkedPlaces.{AreUnseen, IsWalked, Walks, walking, visited, walk_of};
+ghost use Rattle.metrics_bucket.specs.declared.view.Visit.TheVariants.{Unseen, Marked};
 
 use crate::bucket::{BLOCK_SIZE, RuledBucket};
 use crate::pen::SharedWords;
@@ -111,7 +111,7 @@ impl<T: Sample> RuledBucket<T> {
         }
     }
 
-    // Waits for the value of a place, and reads it. It is given the words of its value and its mark.
+    // Waits for the value of a place, reads it, and leaves the place. It is given the words of its value and its mark.
     #[inline(always)]
     fn read_place<R: Wait, W: Walker>(
         rt: &R,
@@ -130,12 +130,13 @@ impl<T: Sample> RuledBucket<T> {
         ensures { (x : ℕ) × (result ≡ T.value x) × (seat.new.table_id ≡ seat.old.table_id)
             × (seat.new.me ≡ (
               holding seat.old.me.0
-                  (walking W.kind side (slice_set (visits_of seat.old.me.0.hold) at (Read x))),
+                  (walking W.kind side (slice_set (visits_of seat.old.me.0.hold) at (visited W.kind x))),
               seat.old.me.1,
             )) }
     {
         Self::see_mark(rt, shared, seat, mark, at);
         let bits = shared.load::<ReadValue>(seat, value);
+        W::leave_place(shared, seat, mark, at);
         T::of_word(bits)
     }
 
@@ -166,7 +167,6 @@ impl<T: Sample> RuledBucket<T> {
             let found = Self::read_place::<R, W>(rt, shared, seat, side, value + at, mark + at, at);
             room[at - start] = found;
         }
-        W::leave_places(self, seat, side, start, end);
     }
 
     // Walks over all places that were given, and shows each chunk to the visitor.
@@ -249,7 +249,6 @@ impl<T: Sample> RuledBucket<T> {
         for at in 0..given {
             Self::read_place::<R, W>(rt, shared, seat, side, value + at, mark + at, at);
         }
-        W::leave_places(self, seat, side, 0, given);
         self.leave::<W>(seat);
     }
 }

@@ -1,14 +1,14 @@
 use Rattle.std.proofs.Common.{rules, ◌≡◌, ℕ, List, ◌+◌, ◌*◌, ◌<◌, inr, replicate, sym, ap, ◌∙◌, subst, arith, le_refl}
 use lib.ListN.{get_elem?}
 use Rattle.metrics_bucket.specs.declared.view.Visit.{Visit}
-use Rattle.metrics_bucket.specs.declared.view.Visit.TheVariants.{Unseen, Read}
+use Rattle.metrics_bucket.specs.declared.view.Visit.TheVariants.{Unseen}
 use Rattle.metrics_bucket.specs.BucketState.{place_index, side_of, visits_of}
 use Rattle.metrics_bucket.specs.WalkSteps.{IsMarkOf, IsValueOf}
 use Rattle.metrics_bucket.proofs.AllowedVisits.{mark_word, value_word}
 use Rattle.metrics_bucket.proofs.Sums.{index_below}
 use Rattle.metrics_bucket.specs.Steps.{Seated}
-use Rattle.metrics_bucket.specs.WalkedPlaces.{Visits, walking, walk_of}
-use Rattle.metrics_bucket.proofs.WalkCode.{walks_none, walks_more, walks_left, visits_now, side_walking, new_at, done, done_turn, done_reach, done_walk}
+use Rattle.metrics_bucket.specs.WalkedPlaces.{Walks, walking, walk_of}
+use Rattle.metrics_bucket.proofs.WalkCode.{walks_none, walks_more, visits_now, side_walking, new_at, done, done_turn, done_reach, done_walk}
 use Rattle.metrics_bucket.proofs.bucket.RuledBucket.pass_and_leave.Goals as goal
 
 pub loop-at-init : goal.loop-at-init
@@ -17,7 +17,7 @@ loop-at-init g c =
     let now = visits_now g.W.Walker.kind c.args.seat.now.me c.args.side (replicate c.args.given Unseen) h in
     record {
       table = search rules;
-      walks = walks_none g.W.Walker.kind Read c.args.seat.now.me c.args.side 0 0 (h ∙ ap (walking g.W.Walker.kind c.args.side) (sym now)) (le_refl 0);
+      walks = walks_none g.W.Walker.kind c.args.seat.now.me c.args.side 0 0 (h ∙ ap (walking g.W.Walker.kind c.args.side) (sym now)) (le_refl 0);
     }
 
 pub read_place-requires : goal.read_place-requires
@@ -56,24 +56,13 @@ loop-at-preserved g c =
     let there = i.walks.others c.loop-at.at (inr (le_refl c.loop-at.at)) ∙ (ap (λ (z : List Visit). get_elem? z c.loop-at.at) now ∙ new_at c.args.given c.loop-at.at (omega arith)) in
     record {
       table = t.2 ∙ i.table;
-      walks = walks_more g.W.Walker.kind Read c.args.seat.now.me c.loop-at.seat.me c.read_place.new.seat.me c.args.side 0 c.loop-at.at t.0 i.walks there (omega arith) t.3;
-    }
-
-pub leave_places-requires : goal.leave_places-requires
-leave_places-requires g c =
-    let i = c.loop-at.invariant in
-    let h = c.requires.home in
-    let all : c.loop-at.at ≡ c.args.given = omega arith in
-    record {
-      home = (i.table ∙ h.0, ap (λ (m : Seated). m.0.places) i.walks.me ∙ h.1, subst (λ (m : Seated). 0 < m.0.weight) (sym i.walks.me) h.2);
-      hold = (c.requires.hold.0, omega arith, c.requires.hold.1, ap (λ (m : Seated). m.0.hold) i.walks.me);
-      visits = λ j a b. i.walks.found j a (omega arith);
+      walks = walks_more g.W.Walker.kind c.args.seat.now.me c.loop-at.seat.me c.read_place.new.seat.me c.args.side 0 c.loop-at.at t.0 i.walks there (omega arith) t.3;
     }
 
 pub leave-requires : goal.leave-requires
 leave-requires g c =
     let all : c.loop-at.at ≡ c.args.given = omega arith in
-    let walks = walks_left g.W.Walker.kind c.args.seat.now.me _ _ c.args.side 0 c.args.given (subst (λ (n : ℕ). Visits g.W.Walker.kind Read c.args.seat.now.me c.loop-at.seat.me c.args.side 0 n) all c.loop-at.invariant.walks) c.leave_places.ensures.left in
+    let walks = subst (λ (n : ℕ). Walks g.W.Walker.kind c.args.seat.now.me c.loop-at.seat.me c.args.side 0 n) all c.loop-at.invariant.walks in
     let knows = done g.W.Walker.kind c.args.seat.now.me _ c.args.side c.args.given walks c.requires.hold.2 in
     record {
       home = (search rules, subst (λ (m : Seated). 0 < m.0.weight) (sym walks.me) c.requires.home.2);
@@ -85,5 +74,5 @@ leave-requires g c =
 pub returns-clause-walked : goal.returns-clause-walked
 returns-clause-walked g c =
     let all : c.loop-at.at ≡ c.args.given = omega arith in
-    let walks = walks_left g.W.Walker.kind c.args.seat.now.me _ _ c.args.side 0 c.args.given (subst (λ (n : ℕ). Visits g.W.Walker.kind Read c.args.seat.now.me c.loop-at.seat.me c.args.side 0 n) all c.loop-at.invariant.walks) c.leave_places.ensures.left in
-    (walk_of c.leave_places.new.seat.me.0, done_walk g.W.Walker.kind c.args.seat.now.me _ _ c.args.side c.args.given walks c.requires.hold.2 c.leave.ensures.walked)
+    let walks = subst (λ (n : ℕ). Walks g.W.Walker.kind c.args.seat.now.me c.loop-at.seat.me c.args.side 0 n) all c.loop-at.invariant.walks in
+    (walk_of c.loop-at.seat.me.0, done_walk g.W.Walker.kind c.args.seat.now.me _ _ c.args.side c.args.given walks c.requires.hold.2 c.leave.ensures.walked)

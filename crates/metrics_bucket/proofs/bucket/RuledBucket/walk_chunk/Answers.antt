@@ -1,14 +1,13 @@
 use Rattle.std.proofs.Common.{rules, ◌≡◌, ℕ, List, set, ◌+◌, ◌-◌, ◌*◌, ◌<◌, ◌≤◌, inr, length, take, drop, map, sym, ap, ◌∙◌, subst, arith, le_refl}
 use Rattle.metrics_bucket.specs.declared.view.Visit.{Visit}
-use Rattle.metrics_bucket.specs.declared.view.Visit.TheVariants.{Read}
 use Rattle.metrics_bucket.specs.BucketState.{place_index, side_of, visits_of, values_in}
 use Rattle.metrics_bucket.specs.WalkSteps.{IsMarkOf, IsValueOf}
 use Rattle.metrics_bucket.proofs.AllowedVisits.{mark_word, value_word}
 use Rattle.metrics_bucket.proofs.Sums.{index_below}
-use Rattle.metrics_bucket.specs.WalkedPlaces.{Visits}
+use Rattle.metrics_bucket.specs.WalkedPlaces.{Walks}
 use Rattle.metrics_bucket.specs.Steps.{Seated}
 use Rattle.metrics_bucket.proofs.Keep.{at_below}
-use Rattle.metrics_bucket.proofs.WalkCode.{walks_none, walks_more, visits_walking, side_walking, values_set, length_values, room_more, walks_left}
+use Rattle.metrics_bucket.proofs.WalkCode.{walks_none, walks_more, visits_walking, side_walking, values_set, length_values, room_more}
 use Rattle.metrics_bucket.proofs.bucket.RuledBucket.walk_chunk.Goals as goal
 
 pub loop-at-init : goal.loop-at-init
@@ -16,7 +15,7 @@ loop-at-init g c =
     let none : c.args.start - c.args.start ≡ 0 = omega arith in
     record {
       table = search rules;
-      walks = walks_none g.W.Walker.kind Read c.args.seat.now.me c.args.side c.args.start c.args.start c.requires.hold.2 (le_refl c.args.start);
+      walks = walks_none g.W.Walker.kind c.args.seat.now.me c.args.side c.args.start c.args.start c.requires.hold.2 (le_refl c.args.start);
       room = (λ i. take (none i) c.args.room.now) ∙ (λ i. map g.T.Sample.value (take (sym none i) (drop c.args.start (values_in (visits_of c.args.seat.now.me.0.hold)))));
     }
 
@@ -55,42 +54,27 @@ loop-at-preserved g c =
     let there = i.walks.others c.loop-at.at (inr (le_refl c.loop-at.at)) ∙ c.requires.visits c.loop-at.at (search rules) (search rules) in
     let below = at_below visits c.loop-at.at _ there in
     let long = length_values visits in
-    let now : values_in (visits_of c.read_place-found.new.seat.me.0.hold) ≡ set (values_in visits) c.loop-at.at t.0 = ap (λ (m : Seated). values_in (visits_of m.0.hold)) t.3 ∙ (ap values_in (visits_walking g.W.Walker.kind c.args.side _) ∙ values_set visits c.loop-at.at t.0) in
+    let now : values_in (visits_of c.read_place-found.new.seat.me.0.hold) ≡ set (values_in visits) c.loop-at.at t.0 = ap (λ (m : Seated). values_in (visits_of m.0.hold)) t.3 ∙ (ap values_in (visits_walking g.W.Walker.kind c.args.side _) ∙ values_set g.W.Walker.kind visits c.loop-at.at t.0) in
     let part = c.requires.part in
     let size = c.loop-at.auto.room in
     let from : c.args.start ≤ c.loop-at.at = search rules in
     let inside : c.loop-at.at - c.args.start < length c.loop-at.room = omega arith in
     record {
       table = t.2 ∙ i.table;
-      walks = walks_more g.W.Walker.kind Read c.args.seat.now.me c.loop-at.seat.me c.read_place-found.new.seat.me c.args.side c.args.start c.loop-at.at t.0 i.walks there from t.3;
+      walks = walks_more g.W.Walker.kind c.args.seat.now.me c.loop-at.seat.me c.read_place-found.new.seat.me c.args.side c.args.start c.loop-at.at t.0 i.walks there from t.3;
       room = room_more g.T.Sample.value (values_in visits) c.loop-at.room c.read_place-found.result c.args.start c.loop-at.at t.0 from (omega arith) inside t.1 i.room
           ∙ ap (λ (l : List ℕ). map g.T.Sample.value (take (c.loop-at.at + 1 - c.args.start) (drop c.args.start l))) (sym now);
-    }
-
-pub leave_places-requires : goal.leave_places-requires
-leave_places-requires g c =
-    let i = c.loop-at.invariant in
-    let h = c.requires.home in
-    let all : c.loop-at.at ≡ c.args.end = omega arith in
-    record {
-      home = (i.table ∙ h.0, ap (λ (m : Seated). m.0.places) i.walks.me ∙ h.1, subst (λ (m : Seated). 0 < m.0.weight) (sym i.walks.me) h.2);
-      hold = (c.requires.hold.0, c.requires.part.0, c.requires.hold.1, ap (λ (m : Seated). m.0.hold) i.walks.me);
-      visits = λ j a b. i.walks.found j a (omega arith);
     }
 
 pub returns-clause-seat : goal.returns-clause-seat
 returns-clause-seat g c =
     let i = c.loop-at.invariant in
-    let all : c.loop-at.at ≡ c.args.end = omega arith in (
-      c.leave_places.ensures.table ∙ i.table,
-      walks_left g.W.Walker.kind c.args.seat.now.me _ _ c.args.side c.args.start c.args.end (subst (λ (n : ℕ). Visits g.W.Walker.kind Read c.args.seat.now.me c.loop-at.seat.me c.args.side c.args.start n) all i.walks) c.leave_places.ensures.left,
-    )
+    let all : c.loop-at.at ≡ c.args.end = omega arith in
+    (i.table, subst (λ (n : ℕ). Walks g.W.Walker.kind c.args.seat.now.me c.loop-at.seat.me c.args.side c.args.start n) all i.walks)
 
 pub returns-clause-room : goal.returns-clause-room
 returns-clause-room g c =
     let n : ℕ = c.args.end - c.args.start in
     let all : c.loop-at.at - c.args.start ≡ n = omega arith in
     (λ k. take (sym all k) c.loop-at.room)
-    ∙ (c.loop-at.invariant.room
-    ∙ ((λ k. map g.T.Sample.value (take (all k) (drop c.args.start (values_in (visits_of c.loop-at.seat.me.0.hold)))))
-    ∙ ap (λ (l : List ℕ). map g.T.Sample.value (take n (drop c.args.start l))) (sym c.leave_places.ensures.left.values)))
+    ∙ (c.loop-at.invariant.room ∙ (λ k. map g.T.Sample.value (take (all k) (drop c.args.start (values_in (visits_of c.loop-at.seat.me.0.hold))))))
