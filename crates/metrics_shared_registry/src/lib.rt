@@ -2,6 +2,7 @@
 #![tactic(auto)]
 
 mod generational;
+mod lock;
 mod recency;
 mod registry;
 mod shard;

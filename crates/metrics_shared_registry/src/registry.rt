@@ -6,22 +6,15 @@ ghost use Rattle.metrics.specs.declared.error.Error.TheVariants.{Memory as OutOf
 ghost use Rattle.metrics_registry.specs.Held.{CallsEach, is_shard_count as is_count};
 ghost use Rattle.metrics_shared_registry.specs.Made.{FitsKey, EachFits};
 
+use crate::lock::Lock;
 use crate::shard::Shard;
 use crate::storage::AtomicStorage;
+use crossbeam_utils::CachePadded;
 use metrics::{Error, Key};
 use metrics_registry::{EqualClone, Hashable, Storage, is_shard_count, shard_by_mask};
 use std::alloc::Global;
 use std::collections::HashMap;
-use std::sync::{RwLock, RwLockReadGuard, Wait};
-
-/// Shares the lock of a shard. It waits only while a writer has the lock or waits for it.
-fn reading<'a, T, R: Wait>(rt: &R, shard: &'a RwLock<T>) -> RwLockReadGuard<'a, T> {
-    // A try is in line, and costs less than `read`.
-    match shard.try_read() {
-        Some(held) => held,
-        None => shard.read(rt),
-    }
-}
+use std::sync::Wait;
 
 /// A registry that any thread may call: for each kind of metric a map from keys to cells, in shards.
 ///
@@ -34,7 +27,7 @@ fn reading<'a, T, R: Wait>(rt: &R, shard: &'a RwLock<T>) -> RwLockReadGuard<'a, 
 #[derive(Drop)]
 pub struct Registry<K: Hashable, S: Storage<K>> {
     storage: S,
-    shards: Vec<RwLock<Shard<K, S>>>,
+    shards: Vec<CachePadded<Lock<Shard<K, S>>>>,
     ghost power: { is_power_of_two (vec_len shards) ≡ true },
 }
 
@@ -64,7 +57,7 @@ where
     }
 
     /// Returns the shard of a key.
-    fn shard(&self, key: &K) -> &RwLock<Shard<K, S>> {
+    fn shard(&self, key: &K) -> &Lock<Shard<K, S>> {
         &self.shards[shard_by_mask(key, self.shards.len())]
     }
 
@@ -85,7 +78,7 @@ where
             (λ found. IfSome found (λ h. (c : S.Counter) × FitsKey K.eq S.makes_counter key.now c × S.Counter.is_clone c h)) }
         ensures err { IfErr result (λ e. e ≡ OutOfMemory) }
     {
-        match reading(rt, self.shard(key)).counters.get(key) {
+        match self.shard(key).read(rt).counters.get(key) {
             Some(cell) => Ok(Some(cell.clone()?)),
             None => Ok(None),
         }
@@ -107,7 +100,7 @@ where
         ensures err { IfErr result (λ e. e ≡ OutOfMemory) }
     {
         let shard = self.shard(key);
-        if let Some(cell) = reading(rt, shard).counters.get(key) {
+        if let Some(cell) = shard.read(rt).counters.get(key) {
             return Ok(op(cell));
         }
         let cell = self.storage.counter(key)?;
@@ -188,7 +181,7 @@ where
             (λ found. IfSome found (λ h. (c : S.Gauge) × FitsKey K.eq S.makes_gauge key.now c × S.Gauge.is_clone c h)) }
         ensures err { IfErr result (λ e. e ≡ OutOfMemory) }
     {
-        match reading(rt, self.shard(key)).gauges.get(key) {
+        match self.shard(key).read(rt).gauges.get(key) {
             Some(cell) => Ok(Some(cell.clone()?)),
             None => Ok(None),
         }
@@ -210,7 +203,7 @@ where
         ensures err { IfErr result (λ e. e ≡ OutOfMemory) }
     {
         let shard = self.shard(key);
-        if let Some(cell) = reading(rt, shard).gauges.get(key) {
+        if let Some(cell) = shard.read(rt).gauges.get(key) {
             return Ok(op(cell));
         }
         let cell = self.storage.gauge(key)?;
@@ -292,7 +285,7 @@ where
             × S.Histogram.is_clone c h)) }
         ensures err { IfErr result (λ e. e ≡ OutOfMemory) }
     {
-        match reading(rt, self.shard(key)).histograms.get(key) {
+        match self.shard(key).read(rt).histograms.get(key) {
             Some(cell) => Ok(Some(cell.clone()?)),
             None => Ok(None),
         }
@@ -314,7 +307,7 @@ where
         ensures err { IfErr result (λ e. e ≡ OutOfMemory) }
     {
         let shard = self.shard(key);
-        if let Some(cell) = reading(rt, shard).histograms.get(key) {
+        if let Some(cell) = shard.read(rt).histograms.get(key) {
             return Ok(op(cell));
         }
         let cell = self.storage.histogram(key)?;
@@ -407,7 +400,7 @@ impl Registry<Key, AtomicStorage> {
 fn new_shards<K: Hashable + EqualClone + Drop, S: Storage<K>>(
     alloc: Global,
     count: usize,
-) -> Result<Vec<RwLock<Shard<K, S>>>, Error>
+) -> Result<Vec<CachePadded<Lock<Shard<K, S>>>>, Error>
 where
     S::Counter: Drop,
     S::Gauge: Drop,
@@ -418,7 +411,8 @@ where
     let mut shards = Vec::new(alloc);
     shards.reserve(count)?;
     for _ in 0..count {
-        shards.push_reserved(RwLock::new(Shard::new(alloc)));
+        let shard = Lock::new(alloc, Shard::new(alloc))?;
+        shards.push_reserved(CachePadded::new(shard));
     }
     Ok(shards)
 }

@@ -10,8 +10,8 @@ use std::alloc::Global;
 use std::process::Abort;
 use std::sync::Wait;
 use std::sync::atomic::{AtomicU64, Ordering};
-use std::thread::{Threads, join};
-use test_trial::{Trial, is_reached};
+use std::thread::{self, Threads, join};
+use test_trial::{Trial, is_reached, sleep};
 
 /// A call that changes no shard, of a key that is held.
 #[derive(Clone, Copy, Debug)]
@@ -24,6 +24,9 @@ enum Call {
 
 /// How long a thread waits for the other one at most, in milliseconds.
 const LONG: u64 = 5000;
+
+/// How long no look-up comes back until they all wait, in milliseconds.
+const STILL: u64 = 50;
 
 /// Waits inside a closure until the other call has come back.
 fn wait_inside<W: Wait>(rt: &W, came_back: &mut bool, step: &AtomicU64) {
@@ -116,6 +119,81 @@ fn a_visit_and_a_look_up_of_a_held_key_share_the_lock(rt: HostRuntime) {
             for call in [Call::Visit, Call::GetOrCreate, Call::Get, Call::Handles] {
                 expect_shared(&rt, alloc, &on, kind, (outer, call));
             }
+        }
+    }
+}
+
+/// Waits inside a closure until the look-ups wait behind the delete. Whether they did so before that came back.
+fn meets_no_reader<W: Wait>(rt: &W, [step, looks]: [&AtomicU64; 2]) -> bool {
+    step.store(1, Ordering::SeqCst);
+    is_reached(rt, looks, 1, LONG);
+    for _ in 0..LONG / STILL {
+        let seen = looks.load(Ordering::SeqCst);
+        sleep(rt, STILL);
+        if looks.load(Ordering::SeqCst) == seen {
+            return step.load(Ordering::SeqCst) == 1;
+        }
+    }
+    false
+}
+
+/// Looks a held key up until the delete has come back. Whether each look-up went well.
+fn look_up<W: Wait>(
+    rt: &W,
+    on: &Numbers,
+    kind: MetricKind,
+    [step, looks]: [&AtomicU64; 2],
+) -> bool {
+    let key = DefaultHashable(0);
+    let mut is_good = is_reached(rt, step, 1, LONG);
+    for _ in rt.forever() {
+        if step.load(Ordering::SeqCst) == 2 {
+            break;
+        }
+        is_good &= of_kind!(kind, is_ok(()), on, get_counter get_gauge get_histogram, (rt, &key));
+        looks.fetch_add(1, Ordering::SeqCst);
+    }
+    is_good
+}
+
+/// The first thread is inside a closure of a held key, the second one deletes another key, and the third one looks the first up.
+fn goes_well<W: Wait>(
+    rt: &W,
+    on: &Numbers,
+    kind: MetricKind,
+    thread: usize,
+    told: [&AtomicU64; 2],
+) -> bool {
+    let mut is_good = false;
+    if thread == 0 {
+        let called = of_kind!(kind, on,
+            get_or_create_counter get_or_create_gauge get_or_create_histogram,
+            (rt, &DefaultHashable(0), |_| is_good = meets_no_reader(rt, told)));
+        is_good &= called.is_ok();
+    } else if thread == 1 {
+        is_reached(rt, told[1], 1, LONG);
+        is_good = of_kind!(kind, on, delete_counter delete_gauge delete_histogram,
+            (rt, &DefaultHashable(1)));
+        told[0].store(2, Ordering::SeqCst);
+    } else {
+        is_good = look_up(rt, on, kind, told);
+    }
+    is_good
+}
+
+/// No memory is refused.
+#[test]
+fn a_delete_waits_for_a_reader_and_later_readers_wait_for_it(rt: HostRuntime) {
+    let alloc = rt.alloc();
+    Trial::new(alloc).calm();
+    let storage = AtomicStorage::with_blocks(alloc, 1).expect(&rt, "one block");
+    let on = &Registry::new(alloc, storage, 1).expect(&rt, "out of memory");
+    for kind in KINDS {
+        add_to_each(&rt, on, kind, 2).expect(&rt, "out of memory");
+        let [step, looks] = [&AtomicU64::new(0), &AtomicU64::new(0)];
+        let goes_well = |thread: usize| goes_well(&rt, on, kind, thread, [step, looks]);
+        for is_good in thread::map_indices(&rt, alloc, 3, &goes_well).expect(&rt, "out of memory") {
+            assert!(rt; is_good);
         }
     }
 }
