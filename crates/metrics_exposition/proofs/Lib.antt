@@ -9,6 +9,7 @@ pub mod NumeralLemmas
 pub mod ValueLemmas
 pub mod LabelLemmas
 pub mod LineLemmas
+pub mod HeadLemmas
 pub mod GatherLemmas
 pub mod FeedLemmas
 pub mod BackLemmas

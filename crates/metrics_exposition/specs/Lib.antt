@@ -5,4 +5,5 @@ pub mod Naming
 pub mod Labels
 pub mod Shown
 pub mod Samples
+pub mod Heads
 pub mod Reading

@@ -20,6 +20,8 @@ pub use names::{allowed_name, is_name, label_name, metric_name, write_help_text,
 pub use naming::{Naming, shown_name, shown_places, total_end, unit_end, without_end};
 pub use numbers::{write_count, write_number};
 pub use places::{DecimalPlaces, WholeNumbers, all_places};
-pub use samples::{ascending, write_bucket, write_histogram, write_labels, write_sample};
+pub use samples::{
+    ascending, write_bucket, write_bucket_head, write_histogram, write_labels, write_sample,
+};
 pub use series::{ReadSeries, reading_kind};
 pub use shown::{ShownItems, ShownName};

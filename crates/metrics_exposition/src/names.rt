@@ -109,16 +109,23 @@ fn write_escaped(text: &mut String, c: char) -> Result<(), AllocError>
     }
 }
 
+/// Returns whether a byte is written unescaped in a label's value.
+fn is_unescaped(c: u8) -> bool
+    ensures { result ≡ is_plain c }
+{
+    c != b'\\' && c != b'"' && c != b'\n'
+}
+
 /// Returns whether each byte is written unescaped in a label's value.
 fn are_plain(bytes: &[u8]) -> bool
     ensures { result ≡ list_all is_plain bytes.now }
 {
+    // Each byte is looked at, so that a step takes many at once.
+    let mut are_plain = true;
     for c in bytes {
-        if *c == b'\\' || *c == b'"' || *c == b'\n' {
-            return false;
-        }
+        are_plain &= is_unescaped(*c);
     }
-    true
+    are_plain
 }
 
 /// Writes a label's value, escaped character by character.

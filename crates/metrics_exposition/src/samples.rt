@@ -1,11 +1,12 @@
 //! The lines of samples.
-ghost use Rattle.std.specs.Prelude.{◌≡◌, ◌++◌, ◌∷◌, [], codes, string_bytes};
-ghost use Rattle.std.specs.Prelude.{IfOk, OnOk, IfErr, IsTrue, flat_map, map};
+ghost use Rattle.std.specs.Prelude.{◌≡◌, ◌++◌, ◌∷◌, [], string_bytes};
+ghost use Rattle.std.specs.Prelude.{IfOk, OnOk, IfErr, IsTrue, flat_map};
 ghost use Rattle.metrics.specs.declared.error.Error.TheVariants.{Memory as OutOfMemory};
 ghost use Rattle.metrics_storage.specs.Histogram.{ascending};
 ghost use Rattle.metrics_exposition.specs.Numbers.{number};
-ghost use Rattle.metrics_exposition.specs.Samples.{label_text, labels_text, sample_line, lines};
-ghost use Rattle.metrics_exposition.specs.Samples.{bucket_sample, histogram_samples};
+ghost use Rattle.metrics_exposition.specs.Samples.{labels_text, sample_line, lines};
+ghost use Rattle.metrics_exposition.specs.Samples.{histogram_samples};
+ghost use Rattle.metrics_exposition.specs.Heads.{open_text, more_text, with_commas, bucket_head, bucket_line};
 
 use crate::names::write_value;
 use crate::numbers::{write_count, write_number};
@@ -13,24 +14,34 @@ use metrics::{Error, Label};
 use metrics_storage::Histogram;
 use std::alloc::{AllocError, Global};
 
-/// Writes a label: NAME="VALUE", the value escaped.
-fn write_label(text: &mut String, name: &str, value: &str) -> Result<(), AllocError>
-    ensures { OnOk result (string_bytes text.new ≡ string_bytes text.old ++ label_text (name.now, value.now)) }
+/// Writes a label up to the quote that ends it: NAME="VALUE with the value escaped.
+fn write_open(text: &mut String, label: &Label) -> Result<(), AllocError>
+    ensures { OnOk result (string_bytes text.new ≡ string_bytes text.old ++ open_text label.now) }
 {
-    text.push_str(name)?;
+    text.push_str(label.key())?;
     text.push_str("=\"")?;
-    write_value(text, value)?;
-    text.push_str("\"")
+    write_value(text, label.value())
 }
 
-/// Writes labels with a comma before each.
+/// Writes labels, each after the end of the one before, and all but that of the last.
 fn write_more(text: &mut String, labels: &[Label]) -> Result<(), AllocError>
-    ensures { OnOk result (string_bytes text.new ≡ string_bytes text.old ++ flat_map (λ m. 44 ∷ label_text m) labels.now) }
+    ensures { OnOk result (string_bytes text.new ≡ string_bytes text.old ++ flat_map more_text labels.now) }
 {
     for label in labels {
-        text.push_str(",")?;
-        write_label(text, label.key(), label.value())?;
+        text.push_str("\",")?;
+        write_open(text, label)?;
     }
+    Ok(())
+}
+
+/// Writes labels in braces: a first one and more.
+fn write_braced(text: &mut String, first: &Label, more: &[Label]) -> Result<(), AllocError>
+    ensures { OnOk result (string_bytes text.new ≡ string_bytes text.old ++ labels_text (first.now ∷ more.now)) }
+{
+    text.push_str("{")?;
+    write_open(text, first)?;
+    write_more(text, more)?;
+    text.push_str("\"}")?;
     Ok(())
 }
 
@@ -42,42 +53,7 @@ pub fn write_labels(text: &mut String, labels: &[Label]) -> Result<(), AllocErro
 {
     match labels {
         [] => Ok(()),
-        [first, rest @ ..] => {
-            text.push_str("{")?;
-            write_label(text, first.key(), first.value())?;
-            write_more(text, rest)?;
-            text.push_str("}")
-        }
-    }
-}
-
-/// Writes labels and a bucket's bound with a comma before each.
-fn write_more_bounded(text: &mut String, labels: &[Label], bound: &str) -> Result<(), AllocError>
-    ensures { OnOk result (string_bytes text.new ≡ string_bytes text.old
-        ++ flat_map (λ m. 44 ∷ label_text m) (labels.now ++ (codes "le", bound.now) ∷ [])) }
-{
-    write_more(text, labels)?;
-    text.push_str(",")?;
-    write_label(text, "le", bound)
-}
-
-/// Writes labels and a bucket's bound in braces.
-fn write_bounded(text: &mut String, labels: &[Label], bound: &str) -> Result<(), AllocError>
-    ensures { OnOk result (string_bytes text.new
-        ≡ string_bytes text.old ++ labels_text (labels.now ++ (codes "le", bound.now) ∷ [])) }
-{
-    match labels {
-        [] => {
-            text.push_str("{")?;
-            write_label(text, "le", bound)?;
-            text.push_str("}")
-        }
-        [first, rest @ ..] => {
-            text.push_str("{")?;
-            write_label(text, first.key(), first.value())?;
-            write_more_bounded(text, rest, bound)?;
-            text.push_str("}")
-        }
+        [first, rest @ ..] => write_braced(text, first, rest),
     }
 }
 
@@ -97,50 +73,74 @@ pub fn write_sample(
         ++ sample_line (record { name = name.now ++ end.now; labels = labels.now; value = number places value })) }
 {
     text.push_str(name)?;
-    text.push_str(end)?;
+    if !end.is_empty() {
+        text.push_str(end)?;
+    }
     write_labels(text, labels)?;
     text.push_str(" ")?;
     write_number(text, places, value)?;
     text.push_str("\n")
 }
 
-/// Writes the line of a bucket, with the bound's text as the value of `le`.
+/// Writes labels with a comma after each.
+fn write_with_commas(text: &mut String, labels: &[Label]) -> Result<(), AllocError>
+    ensures { OnOk result (string_bytes text.new ≡ string_bytes text.old ++ with_commas labels.now) }
+{
+    for label in labels {
+        write_open(text, label)?;
+        text.push_str("\",")?;
+    }
+    Ok(())
+}
+
+/// Writes what the lines of a histogram's buckets begin with: its name and labels, up to the bound.
+///
+/// Fails when out of memory, after a part of it.
+pub fn write_bucket_head(text: &mut String, name: &str, labels: &[Label]) -> Result<(), AllocError>
+    ensures { OnOk result (string_bytes text.new ≡ string_bytes text.old ++ bucket_head name.now labels.now) }
+{
+    text.push_str(name)?;
+    text.push_str("_bucket{")?;
+    write_with_commas(text, labels)?;
+    text.push_str("le=\"")
+}
+
+/// Writes the line of a bucket, with the bound's text as the value of `le`, after a head that `write_bucket_head` wrote.
 ///
 /// Fails when out of memory, after a part of the line.
 pub fn write_bucket(
     text: &mut String,
-    name: &str,
-    labels: &[Label],
+    head: &str,
     bound: &str,
     count: u64,
 ) -> Result<(), AllocError>
-    ensures { OnOk result (string_bytes text.new
-        ≡ string_bytes text.old ++ sample_line (bucket_sample name.now labels.now bound.now count)) }
+    ensures { OnOk result (string_bytes text.new ≡ string_bytes text.old ++ bucket_line head.now bound.now count) }
 {
-    text.push_str(name)?;
-    text.push_str("_bucket")?;
-    write_bounded(text, labels, bound)?;
-    text.push_str(" ")?;
+    text.push_str(head)?;
+    write_value(text, bound)?;
+    text.push_str("\"} ")?;
     write_count(text, count)?;
     text.push_str("\n")
 }
 
+/// How many bytes a bound's text mostly has at most.
+const BOUND_BYTES: usize = 24;
+
 /// Writes the line of each bucket.
 fn write_buckets(
     text: &mut String,
-    name: &str,
-    labels: &[Label],
+    head: &str,
     places: u16,
     buckets: &[(i64, u64)],
 ) -> Result<(), AllocError>
     ensures { OnOk result (string_bytes text.new ≡ string_bytes text.old
-        ++ lines (map (λ b. bucket_sample name.now labels.now (number places b.0) b.1) buckets.now)) }
+        ++ flat_map (λ b. bucket_line head.now (number places b.0) b.1) buckets.now) }
 {
-    let mut shown = String::new(*text.allocator());
+    let mut shown = String::with_capacity(*text.allocator(), BOUND_BYTES)?;
     for (bound, count) in buckets {
         shown.clear();
         write_number(&mut shown, places, i128::from(*bound))?;
-        write_bucket(text, name, labels, &shown, *count)?;
+        write_bucket(text, head, &shown, *count)?;
     }
     Ok(())
 }
@@ -178,6 +178,9 @@ pub fn ascending(alloc: Global, histogram: &Histogram) -> Result<Vec<(i64, u64)>
     Ok(buckets)
 }
 
+/// How many bytes a head mostly has at most, besides its name.
+const HEAD_BYTES: usize = 72;
+
 /// Writes the lines of a histogram: a bucket for each bound in ascending order, and one for `+Inf`, the sum and the count. Bounds
 /// and sum are units of the last of the decimal places.
 ///
@@ -196,10 +199,11 @@ pub fn write_histogram(
 {
     let buckets = ascending(alloc, histogram)?;
     let count = histogram.count();
-    let sum = histogram.sum();
-    write_buckets(text, name, labels, places, &buckets)?;
-    write_bucket(text, name, labels, "+Inf", count)?;
-    write_sample(text, name, "_sum", labels, places, sum)?;
+    let mut head = String::with_capacity(alloc, name.len().saturating_add(HEAD_BYTES))?;
+    write_bucket_head(&mut head, name, labels)?;
+    write_buckets(text, &head, places, &buckets)?;
+    write_bucket(text, &head, "+Inf", count)?;
+    write_sample(text, name, "_sum", labels, places, histogram.sum())?;
     write_sample(text, name, "_count", labels, 0, i128::from(count))?;
     Ok(())
 }
