@@ -179,9 +179,9 @@ impl GaugeFn for GaugeHandle {
 /// The samples are in parts, each under a lock of its own, and a handle records into one of them. The collector and `clone`
 /// assign parts in turn. So give each thread a handle of its own: then they seldom wait for each other.
 ///
-/// A handle has 16 bytes. It keeps its series in the collector: one that is kept for ever keeps some 550 bytes, 32 for each
-/// bound, 8 for each further part that there may be, and the key's texts. Each further part has some 350 bytes and 32 for each
-/// bound from its first sample on.
+/// A handle has 16 bytes. It keeps its series in the collector: one that is kept for ever keeps some 420 bytes, 8 for each
+/// bound, 8 for each further part that there may be, and the key's texts. Each further part has some 220 bytes and 8 for each
+/// bound from its first sample on. The bounds themselves are in memory once, however many histograms have them.
 #[derive(Drop)]
 pub struct HistogramHandle {
     pub(crate) cell: Arc<Parts>,

@@ -127,7 +127,7 @@ impl Collector {
     /// 0 counts as 1. Without this call there are up to 8.
     ///
     /// Handles get the parts in turn, so more parts let more threads record at one time. What is read is the same. A part
-    /// takes 8 bytes, and from its first sample on some 350 and 32 for each bound.
+    /// takes 8 bytes, and from its first sample on some 220 and 8 for each bound.
     pub fn with_stripes(self, stripes: usize) -> Collector
         ensures { result ≡ self }
     {
@@ -258,7 +258,7 @@ impl Collector {
     /// series.
     ///
     /// Each sample is activity. Ask for a handle in each thread: those of one histogram seldom wait for each other. A handle
-    /// keeps its series, as long as it is kept: some 550 bytes, 32 for each bound, and the key's texts.
+    /// keeps its series, as long as it is kept: some 420 bytes, 8 for each bound, and the key's texts.
     pub fn histogram<W: Wait>(&self, rt: &W, key: &Key) -> Result<HistogramHandle, Error>
         ensures key { IfOk result (λ h. IsKept self.now.labels.items key.now (histogram_key h)) }
         ensures err { IfErr result (λ e. e ≡ OutOfMemory) }
@@ -393,7 +393,7 @@ impl Collector {
     /// # Memory
     ///
     /// The collector keeps the rows of its last text for the next one: some 60 bytes and its name for each series, and for a
-    /// histogram 130 bytes more, and 32 for each bound.
+    /// histogram 80 bytes more, and 8 for each bound.
     pub fn render<W: Wait>(&self, rt: &W, alloc: Global, now: u64) -> Result<String, Error>
         ensures text { IfOk result (λ text. (legend : Legend) × (gathered : GatheredParts) × (kept : List KeyedReading)
             × AreOnce (all_gathered gathered) kept × AreOfKinds (cells_of_readings kept)

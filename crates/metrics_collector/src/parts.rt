@@ -76,10 +76,7 @@ impl Parts {
 
     /// Makes a part without samples.
     fn new_part<W: Wait>(&self, rt: &W) -> Result<Box<Part>, Error> {
-        let empty = Histogram::new(self.alloc, self.first.lock(rt).bounds())?;
-        let Some(empty) = empty else {
-            return Err(Error::NoBounds);
-        };
+        let empty = self.first.lock(rt).new_like()?;
         Ok(Box::new(self.alloc, CachePadded::new(Mutex::new(empty)))?)
     }
 
