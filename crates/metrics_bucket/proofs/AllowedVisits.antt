@@ -142,14 +142,3 @@ module _ (places : ℕ) (many : Bool) where
         one_read Claimed i x y a b = absurd a
         one_read (SideKnown s) i x y a b = absurd a
         one_read (Settling s xs) i x y a b = absurd a
-
--- the words as the code computes them
-pub mark_word : (v : View) (p s i r : ℕ) → v.places ≡ p → side_of v.hold ≡ s → r ≡ place_index p s i → IsMarkOf v (2 + 2 * p + r) i
-mark_word v p s i r places side is =
-    let a : 2 + (p + p) + place_index p s i ≡ 2 + (v.places + v.places) + place_index v.places (side_of v.hold) i = (λ z. 2 + (sym places z + sym places z) + place_index (sym places z) (sym side z) i) in
-    omega arith
-
-pub value_word : (v : View) (p s i r : ℕ) → v.places ≡ p → side_of v.hold ≡ s → r ≡ place_index p s i → IsValueOf v (2 + r) i
-value_word v p s i r places side is =
-    let a : 2 + place_index p s i ≡ 2 + place_index v.places (side_of v.hold) i = (λ z. 2 + place_index (sym places z) (sym side z) i) in
-    omega arith

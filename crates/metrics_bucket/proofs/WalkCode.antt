@@ -1,5 +1,5 @@
 -- What the code of a walk knows of its seat.
-use Rattle.std.proofs.Common.{◌≡◌, ◌≢◌, ◌⊎◌, ℕ, zero, suc, ◌+◌, ◌-◌, ◌*◌, ◌<◌, ◌≤◌, List, [], ◌∷◌, ◌++◌, length, get_or, set, take, drop, map, replicate, refl, sym, ap, ◌∙◌, subst, inl, inr, ⊎_elim, arith, min, length-set, get_or-set_same}
+use Rattle.std.proofs.Common.{◌≡◌, ◌≢◌, ◌⊎◌, ℕ, zero, suc, ◌+◌, ◌-◌, ◌*◌, ◌<◌, ◌≤◌, List, [], ◌∷◌, ◌++◌, length, get_or, set, take, drop, map, replicate, refl, sym, ap, ◌∙◌, subst, inl, inr, ⊎_elim, arith, le_refl, min, length-set, get_or-set_same}
 use Rattle.std.specs.List.{FoldsTo}
 use denote.Param.Members.{Called}
 use Rattle.std.specs.Fn.{CalledAt}
@@ -25,8 +25,7 @@ use Rattle.metrics_bucket.specs.ClearedPlaces.{has_taken, IsSideTaken}
 use Rattle.metrics_bucket.specs.Places.{Reaches, Finds, Covers}
 use Rattle.metrics_bucket.proofs.Blocks.{chunk, chunks_from, chunks_front, drop_more, part_next}
 use Rattle.metrics_bucket.specs.Steps.{Seated}
-use Rattle.metrics_bucket.specs.WalkSteps.{IsValueOf, IsMarkOf, IsClearing}
-use Rattle.metrics_bucket.proofs.AllowedVisits.{value_word}
+use Rattle.metrics_bucket.specs.WalkSteps.{IsMarkOf, IsClearing}
 use Rattle.metrics_bucket.specs.Facts.{weigh, weigh_pushes, weigh_walks}
 use Rattle.metrics_bucket.specs.declared.view.Walk.{Walk}
 use Rattle.metrics_bucket.specs.declared.view.View.{View}
@@ -51,7 +50,7 @@ pub put_walking : (kind : WalkKind) (s at : ℕ) (visits : List Visit) (c : Visi
 put_walking reads s at visits c = refl
 put_walking clears s at visits c = refl
 
-pub has_walking : (kind : WalkKind) (s at : ℕ) (visits : List Visit) (c : Visit) → get_elem? visits at ≡ some c → HasVisit (walking kind s visits) at c
+has_walking : (kind : WalkKind) (s at : ℕ) (visits : List Visit) (c : Visit) → get_elem? visits at ≡ some c → HasVisit (walking kind s visits) at c
 has_walking reads s at visits c e = e
 has_walking clears s at visits c e = e
 
@@ -73,40 +72,34 @@ visit_there visits at b c e = set_here visits at c (at_below visits at b e)
 pub visits_now : (kind : WalkKind) (m : Seated) (s : ℕ) (visits : List Visit) → m.0.hold ≡ walking kind s visits → visits_of m.0.hold ≡ visits
 visits_now kind m s visits h = ap visits_of h ∙ visits_walking kind s visits
 
+-- a visit of a walk
+pub has_visit : (kind : WalkKind) (m : Seated) (s at : ℕ) (c : Visit) → m.0.hold ≡ walking kind s (visits_of m.0.hold) → get_elem? (visits_of m.0.hold) at ≡ some c → HasVisit m.0.hold at c
+has_visit kind m s at c h e = subst (λ (z : Hold). HasVisit z at c) (sym h) (has_walking kind s at (visits_of m.0.hold) c e)
+
 -- the mark of a place was seen
-pub place_marked : (kind : WalkKind) (m m1 : Seated) (p s at r : ℕ) (visits : List Visit) → m.0.hold ≡ walking kind s visits → get_elem? visits at ≡ some Unseen → m.0.places ≡ p → r ≡ place_index p s at
-    → m1 ≡ (holding m.0 (put_visit m.0.hold at Marked), m.1) → IsValueOf m1.0 (2 + r) at × HasVisit m1.0.hold at Marked
-place_marked kind m m1 p s at r visits h unseen places is e =
-    let marked : List Visit = set visits at Marked in
-    let h1 = next_hold kind m m1 s at visits Marked h e in (
-      value_word m1.0 p s at r (ap (λ (z : Seated). z.0.places) e ∙ places) (ap side_of h1 ∙ side_walking kind s marked) is,
-      subst (λ (z : Hold). HasVisit z at Marked) (sym h1) (has_walking kind s at marked Marked (visit_there visits at Unseen Marked unseen)),
-    )
+pub place_marked : (kind : WalkKind) (m0 m1 : Seated) (s at : ℕ) → m0.0.hold ≡ walking kind s (visits_of m0.0.hold) → get_elem? (visits_of m0.0.hold) at ≡ some Unseen
+    → m1 ≡ (holding m0.0 (put_visit m0.0.hold at Marked), m0.1) → get_elem? (visits_of m1.0.hold) at ≡ some Marked
+place_marked kind m0 m1 s at h unseen e =
+    let visits : List Visit = visits_of m0.0.hold in
+    ap (λ (z : List Visit). get_elem? z at) (visits_now kind m1 s (set visits at Marked) (next_hold kind m0 m1 s at visits Marked h e)) ∙ visit_there visits at Unseen Marked unseen
 
--- a place was seen and read
-pub place_walked : (kind : WalkKind) (m0 m1 m2 : Seated) (s at r : ℕ) (visits : List Visit) → m0.0.hold ≡ walking kind s visits → m1 ≡ (holding m0.0 (put_visit m0.0.hold at Marked), m0.1)
-    → m2 ≡ (holding m1.0 (put_visit m1.0.hold at (Read r)), m1.1) → m2 ≡ (holding m0.0 (walking kind s (set visits at (Read r))), m0.1)
-place_walked kind m0 m1 m2 s at r visits h e1 e2 =
-    let h1 = next_hold kind m0 m1 s at visits Marked h e1 in
-    let last : put_visit m1.0.hold at (Read r) ≡ walking kind s (set visits at (Read r)) =
-    ap (λ (z : Hold). put_visit z at (Read r)) h1 ∙ (put_walking kind s at (set visits at Marked) (Read r) ∙ ap (walking kind s) (set_twice visits at Marked (Read r)))
-    in
-    e2 ∙ ((λ i. (holding m1.0 (last i), m1.1)) ∙ ap (λ (z : Seated). (holding z.0 (walking kind s (set visits at (Read r))), z.1)) e1)
-
--- what leaving a place needs to know of it
-pub place_read : (kind : WalkKind) (m0 m1 : Seated) (s at x mark : ℕ) (visits : List Visit) → m0.0.hold ≡ walking kind s visits → get_elem? visits at ≡ some Unseen → IsMarkOf m0.0 mark at
-    → m1 ≡ (holding m0.0 (walking kind s (set visits at (Read x))), m0.1)
+-- a place was read, and what leaving it needs to know of it
+pub place_read : (kind : WalkKind) (m0 m1 : Seated) (s at x mark : ℕ) → m0.0.hold ≡ walking kind s (visits_of m0.0.hold) → get_elem? (visits_of m0.0.hold) at ≡ some Marked → IsMarkOf m0.0 mark at
+    → m1 ≡ (holding m0.0 (put_visit m0.0.hold at (Read x)), m0.1)
     → IsMarkOf m1.0 mark at × (m1.0.hold ≡ walking kind (side_of m1.0.hold) (visits_of m1.0.hold)) × (get_elem? (visits_of m1.0.hold) at ≡ some (Read x))
-place_read kind m0 m1 s at x mark visits h unseen is e =
+    × (m1 ≡ (holding m0.0 (walking kind s (set (visits_of m0.0.hold) at (Read x))), m0.1))
+place_read kind m0 m1 s at x mark h marked is e =
+    let visits : List Visit = visits_of m0.0.hold in
     let new : List Visit = set visits at (Read x) in
-    let hold : m1.0.hold ≡ walking kind s new = ap (λ (z : Seated). z.0.hold) e in
-    let now : visits_of m1.0.hold ≡ new = ap visits_of hold ∙ visits_walking kind s new in
+    let hold = next_hold kind m0 m1 s at visits (Read x) h e in
+    let now = visits_now kind m1 s new hold in
     let side : side_of m1.0.hold ≡ s = ap side_of hold ∙ side_walking kind s new in
     let sides : side_of m0.0.hold ≡ side_of m1.0.hold = ap side_of h ∙ (side_walking kind s visits ∙ sym side) in
     let places : m0.0.places ≡ m1.0.places = sym (ap (λ (z : Seated). z.0.places) e) in (
       is ∙ (λ i. 2 + (places i + places i) + place_index (places i) (sides i) at),
       hold ∙ (λ i. walking kind (sym side i) (sym now i)),
-      ap (λ (z : List Visit). get_elem? z at) now ∙ visit_there visits at Unseen (Read x) unseen,
+      ap (λ (z : List Visit). get_elem? z at) now ∙ visit_there visits at Marked (Read x) marked,
+      e ∙ (λ i. (holding m0.0 ((ap (λ (z : Hold). put_visit z at (Read x)) h ∙ put_walking kind s at visits (Read x)) i), m0.1)),
     )
 
 -- and then left
@@ -118,6 +111,15 @@ place_left kind m0 m1 m2 s at x visits e1 e2 =
     ap (λ (z : Seated). put_visit z.0.hold at new) e1 ∙ (put_walking kind s at (set visits at (Read x)) new ∙ ap (walking kind s) (set_twice visits at (Read x) new))
     in
     e2 ∙ ((λ i. (holding m1.0 (last i), m1.1)) ∙ ap (λ (z : Seated). (holding z.0 (walking kind s (set visits at new)), z.1)) e1)
+
+-- a place was seen, read and left
+pub place_walked : (kind : WalkKind) (m0 m1 m2 : Seated) (s at x : ℕ) → m0.0.hold ≡ walking kind s (visits_of m0.0.hold) → m1 ≡ (holding m0.0 (put_visit m0.0.hold at Marked), m0.1)
+    → m2 ≡ (holding m1.0 (walking kind s (set (visits_of m1.0.hold) at (visited kind x))), m1.1) → m2 ≡ (holding m0.0 (walking kind s (set (visits_of m0.0.hold) at (visited kind x))), m0.1)
+place_walked kind m0 m1 m2 s at x h e1 e2 =
+    let visits : List Visit = visits_of m0.0.hold in
+    let now = visits_now kind m1 s (set visits at Marked) (next_hold kind m0 m1 s at visits Marked h e1) in
+    e2 ∙ ((λ i. (holding m1.0 (walking kind s ((ap (λ (z : List Visit). set z at (visited kind x)) now ∙ set_twice visits at Marked (visited kind x)) i)), m1.1))
+    ∙ ap (λ (z : Seated). (holding z.0 (walking kind s (set visits at (visited kind x))), z.1)) e1)
 
 -- a reading walk leaves a place as it found it
 pub left_read : (visits : List Visit) (at x : ℕ) → get_elem? visits at ≡ some (Read x) → set visits at (Read x) ≡ visits
@@ -192,6 +194,10 @@ pub new_at : (n i : ℕ) → i < n → get_elem? (replicate n Unseen) i ≡ some
 new_at zero i l = absurd (omega arith)
 new_at (suc n) zero l = refl
 new_at (suc n) (suc i) l = new_at n i (omega arith)
+
+-- a walk that began comes to a place
+pub next_unseen : (kind : WalkKind) (m m1 : Seated) (side given at : ℕ) → Walks kind m m1 side 0 at → m.0.hold ≡ walking kind side (replicate given Unseen) → at < given → get_elem? (visits_of m1.0.hold) at ≡ some Unseen
+next_unseen kind m m1 side given at c h l = c.others at (inr (le_refl at)) ∙ (ap (λ (z : List Visit). get_elem? z at) (visits_now kind m side (replicate given Unseen) h) ∙ new_at given at l)
 
 pub length_visits : (n : ℕ) → length (replicate n Unseen) ≡ n
 length_visits zero = refl

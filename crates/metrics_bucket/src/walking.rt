@@ -90,31 +90,9 @@ impl<T: Sample> RuledBucket<T> {
         self.table.shared.store::<LeaveTurn>(seat, 1, 0);
     }
 
-    // Waits until the mark of a place, at this word, is 1, which it mostly is.
+    // Reads the value of a place whose mark was seen, and leaves the place. It is given the words of its value and its mark.
     #[inline(always)]
-    fn see_mark<R: Wait>(
-        rt: &R,
-        shared: &SharedWords,
-        seat: &mut Seat<Turn, View>,
-        mark: usize,
-        at: usize,
-    )
-        requires home { (seat.old.table_id ≡ shared.now.table_id) × (0 < seat.old.me.0.weight) }
-        requires word { (mark < shared.now.table_id.words) × IsMarkOf seat.old.me.0 mark at }
-        requires visit { HasVisit seat.old.me.0.hold at Unseen }
-        ensures table { seat.new.table_id ≡ seat.old.table_id }
-        ensures marked { seat.new.me
-            ≡ (holding seat.old.me.0 (put_visit seat.old.me.0.hold at Marked), seat.old.me.1) }
-    {
-        if !Self::is_marked(shared, seat, mark, at) {
-            Self::wait_for(rt, shared, seat, mark, at);
-        }
-    }
-
-    // Waits for the value of a place, reads it, and leaves the place. It is given the words of its value and its mark.
-    #[inline(always)]
-    fn read_place<R: Wait, W: Walker>(
-        rt: &R,
+    fn take_place<W: Walker>(
         shared: &SharedWords,
         seat: &mut Seat<Turn, View>,
         side: usize,
@@ -126,7 +104,7 @@ impl<T: Sample> RuledBucket<T> {
         requires words { (value < shared.now.table_id.words) × (mark < shared.now.table_id.words)
             × IsValueOf seat.old.me.0 value at × IsMarkOf seat.old.me.0 mark at }
         requires hold { seat.old.me.0.hold ≡ walking W.kind side (visits_of seat.old.me.0.hold) }
-        requires visit { get_elem? (visits_of seat.old.me.0.hold) at ≡ some Unseen }
+        requires visit { get_elem? (visits_of seat.old.me.0.hold) at ≡ some Marked }
         ensures { (x : ℕ) × (result ≡ T.value x) × (seat.new.table_id ≡ seat.old.table_id)
             × (seat.new.me ≡ (
               holding seat.old.me.0
@@ -134,7 +112,6 @@ impl<T: Sample> RuledBucket<T> {
               seat.old.me.1,
             )) }
     {
-        Self::see_mark(rt, shared, seat, mark, at);
         let bits = shared.load::<ReadValue>(seat, value);
         W::leave_place(shared, seat, mark, at);
         T::of_word(bits)
@@ -164,7 +141,10 @@ impl<T: Sample> RuledBucket<T> {
         let value = 2 + self.place_index(side, 0);
         let mark = 2 * self.places + value;
         for at in start..end {
-            let found = Self::read_place::<R, W>(rt, shared, seat, side, value + at, mark + at, at);
+            if !Self::is_marked(shared, seat, mark + at, at) {
+                Self::wait_for(rt, shared, seat, mark + at, at);
+            }
+            let found = Self::take_place::<W>(shared, seat, side, value + at, mark + at, at);
             room[at - start] = found;
         }
     }
@@ -247,7 +227,10 @@ impl<T: Sample> RuledBucket<T> {
         let value = 2 + self.place_index(side, 0);
         let mark = 2 * self.places + value;
         for at in 0..given {
-            Self::read_place::<R, W>(rt, shared, seat, side, value + at, mark + at, at);
+            if !Self::is_marked(shared, seat, mark + at, at) {
+                Self::wait_for(rt, shared, seat, mark + at, at);
+            }
+            Self::take_place::<W>(shared, seat, side, value + at, mark + at, at);
         }
         self.leave::<W>(seat);
     }
