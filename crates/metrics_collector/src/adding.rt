@@ -6,6 +6,7 @@ ghost use Rattle.metrics.specs.declared.error.Error.TheVariants.{Memory as OutOf
 ghost use Rattle.metrics_collector.specs.declared.gathered.Value.TheVariants.{Count as Counted, Level as Leveled};
 
 use crate::gathered::{Gathered, GatheredSeries, Value};
+use crate::row_key::RowKey;
 use metrics::{Error, Key};
 
 /// Adds a row. Out of memory, it returns the key.
@@ -14,11 +15,12 @@ fn push(gathered: &mut Gathered, key: Key, value: Value) -> Result<(), (Error, K
         (λ _. gathered.new.series.items ≡ gathered.old.series.items ++ record { key = key; value = value } ∷ [])
         (λ e. (e.0 ≡ OutOfMemory) × (e.1 ≡ key) × (gathered.new.series.items ≡ gathered.old.series.items)) }
 {
+    let key = RowKey::new(key);
     match gathered.series.push(GatheredSeries { key, value }) {
         Ok(()) => Ok(()),
         Err(refused) => {
             let GatheredSeries { key, value: _ } = refused.value;
-            Err((Error::Memory, key))
+            Err((Error::Memory, key.into_key()))
         }
     }
 }

@@ -9,6 +9,7 @@ ghost use Rattle.metrics_collector.specs.LeftOut.{IsLeftOutNumber, IsLeftOutGaug
 
 use crate::gathered::{GatheredSeries, Value};
 use crate::keys::copies;
+use crate::row_key::RowKey;
 use metrics::{Error, Key, Label};
 use metrics_prometheus::{CountedText, Descriptions, Naming, exposition_of};
 use std::alloc::Global;
@@ -28,7 +29,7 @@ fn gauge_row(key: Key, number: i64) -> GatheredSeries
     ensures { keyed_gathered result ≡ (series_at GaugeKind key, level number) }
 {
     GatheredSeries {
-        key,
+        key: RowKey::new(key),
         value: Value::Level(number),
     }
 }

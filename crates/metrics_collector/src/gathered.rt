@@ -7,7 +7,8 @@ ghost use Rattle.metrics_descriptions.specs.Legends.{described_by};
 ghost use Rattle.metrics_prometheus.specs.Exposition.{IsDescribed};
 ghost use Rattle.metrics_exposition.specs.Reading.{AreOfKinds};
 
-use metrics::{Error, Key, MetricKind};
+use crate::row_key::RowKey;
+use metrics::{Error, MetricKind};
 use metrics_prometheus::{
     Descriptions, Naming, ReadSeries, ReadingRef, SeriesReading, exposition_of,
 };
@@ -25,7 +26,7 @@ pub enum Value {
 /// A series with what it had. Its kind is that of its value.
 #[derive(Drop)]
 pub struct GatheredSeries {
-    pub key: Key,
+    pub key: RowKey,
     pub value: Value,
 }
 
@@ -60,9 +61,13 @@ impl ReadSeries for GatheredSeries {
             Value::Samples(histogram) => ReadingRef::Samples(histogram),
         };
         SeriesReading {
-            key: &self.key,
+            key: self.key.get(),
             reading,
         }
+    }
+
+    fn has_ready_labels(&self) -> bool {
+        self.key.is_ready()
     }
 }
 

@@ -16,6 +16,7 @@ mod parts;
 mod quantiles;
 mod readings;
 mod repeats;
+mod row_key;
 mod rows;
 
 pub use cells::{CollectorCells, CounterHandle, GaugeHandle, HistogramHandle};
@@ -30,3 +31,4 @@ pub use metrics_exporter::{Bounds, BoundsError};
 pub use metrics_prometheus::{BadLabel, Described, Descriptions, Naming, left_out};
 pub use metrics_registry::Quantile;
 pub use quantiles::quantile_bound;
+pub use row_key::RowKey;

@@ -2,6 +2,7 @@
 ghost use Rattle.std.specs.Prelude.{◌≡◌, ◌∷◌, ◌++◌, [], OnOk, length};
 
 use crate::gathered::{GatheredSeries, Value};
+use crate::row_key::RowKey;
 use metrics::Key;
 use std::alloc::AllocError;
 use std::marker::Model;
@@ -30,11 +31,11 @@ impl Model for Rows {
 fn refill(row: &mut GatheredSeries, key: &Key, value: Value) -> Result<(), AllocError>
     ensures { OnOk result (row.new ≡ record { key = key.now; value = value }) }
 {
-    if row.key == *key {
+    if row.key.get() == key {
         row.value = value;
         return Ok(());
     }
-    let key = key.clone()?;
+    let key = RowKey::new(key.clone()?);
     *row = GatheredSeries { key, value };
     Ok(())
 }
@@ -55,7 +56,7 @@ impl Rows {
         if at < self.series.len() {
             refill(&mut self.series[at], key, value)?;
         } else {
-            let key = key.clone()?;
+            let key = RowKey::new(key.clone()?);
             self.series.push(GatheredSeries { key, value })?;
         }
         self.count = at + 1;

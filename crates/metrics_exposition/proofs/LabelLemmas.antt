@@ -274,3 +274,26 @@ pub once-bounded : (k : MetricKind) (ls : List LabelParts) (v : List ℕ) → ki
 once-bounded k ls v hist fit up =
     let none = sym (reserved-is k ls) ∙ not-true (is_some (reserved_of k ls)) (both-true (not (repeats ls)) (not (is_some (reserved_of k ls))) fit).1 in
     once-from (ls ++ (codes "le", v) ∷ []) (pairs-append Others ls ((codes "le", v) ∷ []) (others ls up) (tt, tt) (not-le k v hist ls none))
+
+-- ---- what is fit for a histogram is fit for each kind
+
+none-and : (b : Bool) → (b && false) ≡ false
+none-and true = refl
+none-and false = refl
+
+freer : (k : MetricKind) (name : List ℕ) → is_reserved Histogram name ≡ false → is_reserved k name ≡ false
+freer k name h =
+    let own = or-false (starts_with nat_eq name (codes "__")) (bytes_eq name (codes "le")) h in
+    ap (λ b. b || (kind_eq k Histogram && bytes_eq name (codes "le"))) own.0 ∙ (ap (λ b. kind_eq k Histogram && b) own.1 ∙ none-and (kind_eq k Histogram))
+
+none-reserved : (k : MetricKind) (ls : List LabelParts) → list_any (λ l. is_reserved Histogram l.0) ls ≡ false → list_any (λ l. is_reserved k l.0) ls ≡ false
+none-reserved k [] h = refl
+none-reserved k (l ∷ ls) h =
+    let parts = or-false (is_reserved Histogram l.0) (list_any (λ l. is_reserved Histogram l.0) ls) h in
+    ap (λ b. b || list_any (λ l. is_reserved k l.0) ls) (freer k l.0 parts.0) ∙ none-reserved k ls parts.1
+
+pub fit-any : (k : MetricKind) (ls : List LabelParts) → are_fit Histogram ls ≡ true → are_fit k ls ≡ true
+fit-any k ls fit =
+    let parts = both-true (not (repeats ls)) (not (is_some (reserved_of Histogram ls))) fit in
+    let none = none-reserved k ls (sym (reserved-is Histogram ls) ∙ not-true (is_some (reserved_of Histogram ls)) parts.1) in
+    ap (λ b. b && not (is_some (reserved_of k ls))) parts.0 ∙ ap not (reserved-is k ls ∙ none)

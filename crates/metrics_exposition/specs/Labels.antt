@@ -1,6 +1,6 @@
 -- The labels of a series as Prometheus is shown them.
-use Rattle.std.specs.Prelude.{if◌then◌else◌, ℕ, Bool, false, not, ◌&&◌, ◌||◌, List, [], ◌∷◌, codes, nat_eq, bytes_eq, Option, None, Some, is_some}
-use Rattle.std.specs.List.{AllByRecursion, list_any, starts_with}
+use Rattle.std.specs.Prelude.{if◌then◌else◌, ◌≡◌, ℕ, Bool, true, false, not, ◌&&◌, ◌||◌, List, [], ◌∷◌, codes, nat_eq, bytes_eq, Option, None, Some, is_some}
+use Rattle.std.specs.List.{All, AllByRecursion, list_any, starts_with}
 use Rattle.std.specs.Str.{IsUtf8}
 use Rattle.std.specs.Ordering.{is_lt}
 use Rattle.metrics_names.specs.declared.kind.MetricKind.{MetricKind}
@@ -51,6 +51,10 @@ are_fit kind labels = not (repeats labels) && not (is_some (reserved_of kind lab
 -- the values of labels are UTF-8
 abbrev pub AreTexts : List LabelParts → Type 0
 AreTexts labels = AllByRecursion (λ l. IsUtf8 l.1) labels
+
+-- a series of any kind is shown with these very labels
+abbrev pub AreReady : List LabelParts → Type 0
+AreReady labels = (shown_labels labels ≡ labels) × ((kind : MetricKind) → are_fit kind labels ≡ true) × All (λ l. IsUtf8 l.1) labels
 
 -- a name is the one before
 abbrev pub is_last : Option (List ℕ) → List ℕ → Bool

@@ -6,7 +6,7 @@ ghost use Rattle.std.specs.Str.{IsUtf8};
 ghost use Rattle.metrics.specs.declared.error.Error.TheVariants.{Memory as OutOfMemory};
 ghost use Rattle.metrics_names.specs.Names.{label_eq, label_cmp};
 ghost use Rattle.metrics_exposition.specs.Labels.{placed, added, shown_labels, is_whole};
-ghost use Rattle.metrics_exposition.specs.Labels.{first_value, repeats, is_last, is_reserved, reserved_of, are_fit};
+ghost use Rattle.metrics_exposition.specs.Labels.{first_value, repeats, is_last, is_reserved, reserved_of, are_fit, AreReady};
 
 use crate::names::{is_name, label_name};
 use crate::shown::ShownItems;
@@ -170,4 +170,12 @@ pub fn are_fit(kind: MetricKind, labels: &[Label]) -> bool
     ensures { result ≡ are_fit kind labels.now }
 {
     !repeats(labels) && !has_reserved(kind, labels)
+}
+
+/// Returns whether a series of any kind is shown with these very labels: they are in order, each is allowed and has a value, no two
+/// have one name, and Prometheus keeps none for itself.
+pub fn are_ready(labels: &[Label]) -> bool
+    ensures { IsTrue result → AreReady labels.now }
+{
+    are_sorted(labels) && are_whole(labels) && are_fit(MetricKind::Histogram, labels)
 }

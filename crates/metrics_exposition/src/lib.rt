@@ -13,7 +13,8 @@ mod shown;
 
 pub use common::{BadLabel, bad_label, first_bad_label};
 pub use labels::{
-    are_equal, are_fit, first_value, is_last, is_reserved, repeats, reserved_of, shown_labels,
+    are_equal, are_fit, are_ready, first_value, is_last, is_reserved, repeats, reserved_of,
+    shown_labels,
 };
 pub use metrics::Error;
 pub use names::{allowed_name, is_name, label_name, metric_name, write_help_text, write_value};

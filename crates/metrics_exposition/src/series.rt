@@ -1,9 +1,11 @@
 //! Series of which texts are written.
-ghost use Rattle.std.specs.Prelude.{◌≡◌, Some};
+ghost use Rattle.std.specs.Prelude.{◌≡◌, Some, IsTrue};
 ghost use Rattle.std.specs.List.{AllByRecursion};
 ghost use Rattle.metrics_exporter.specs.Readings.{KeyedReading, keyed_reading, kind_shown, reading_shown, series_read};
 ghost use Rattle.metrics_exposition.specs.Reading.{IsSmall, ReadsAs};
+ghost use Rattle.metrics_exposition.specs.Labels.{AreReady};
 
+use crate::labels::are_ready;
 use metrics_exporter::{ReadingRef, SeriesReading, SeriesRef};
 use metrics_storage::Histogram;
 
@@ -14,6 +16,11 @@ pub trait ReadSeries {
     /// Returns the series by reference.
     fn reading(&self) -> SeriesReading<'_>
         ensures { keyed_reading result ≡ keyed self.now };
+
+    /// Returns whether its labels are ready, as `are_ready` says. It may keep that with its key; a series that returns false has its
+    /// labels looked at for each text.
+    fn has_ready_labels(&self) -> bool
+        ensures { IsTrue result → AreReady (keyed self.now).0.key.labels };
 }
 
 impl ReadSeries for SeriesReading<'_> {
@@ -22,6 +29,10 @@ impl ReadSeries for SeriesReading<'_> {
     fn reading(&self) -> SeriesReading<'_> {
         *self
     }
+
+    fn has_ready_labels(&self) -> bool {
+        are_ready(self.key.labels())
+    }
 }
 
 impl ReadSeries for SeriesRef<'_> {
@@ -29,6 +40,10 @@ impl ReadSeries for SeriesRef<'_> {
 
     fn reading(&self) -> SeriesReading<'_> {
         self.reading()
+    }
+
+    fn has_ready_labels(&self) -> bool {
+        are_ready(self.key().labels())
     }
 }
 

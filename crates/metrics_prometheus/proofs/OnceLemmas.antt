@@ -25,7 +25,7 @@ use Rattle.metrics_names.specs.Equality.{series_key_eq-Decides, key_exact}
 use Rattle.metrics_exporter.specs.Exporting.{Reading, Cell, Cells}
 use Rattle.metrics_exporter.specs.Gathering.{series_at}
 use Rattle.metrics_exporter.specs.Readings.{KeyedReading, AreReadings, AreOnce, cells_of_readings, reading_in}
-use Rattle.metrics_prometheus.specs.declared.rows.ShownRow.{ShownRow}
+use Rattle.metrics_prometheus.specs.declared.row.ShownRow.{ShownRow}
 use Rattle.metrics_exposition.specs.Naming.{Display}
 use Rattle.metrics_prometheus.specs.Exposition.{Row, row_of, row_cmp}
 use Rattle.metrics_prometheus.specs.Rows.{row_shown, pair_shown, pair_of, keyed_shown}

@@ -9,7 +9,7 @@ use Rattle.std.proofs.lemmas.List.{take_more, map-append}
 use Rattle.std.proofs.lemmas.List.Sorted.{IsPermutation-refl}
 use Rattle.metrics_exporter.specs.Exporting.{Reading, Cells}
 use Rattle.metrics_exporter.specs.Readings.{KeyedReading, reading_in, AreReadings}
-use Rattle.metrics_prometheus.specs.declared.rows.ShownRow.{ShownRow}
+use Rattle.metrics_prometheus.specs.declared.row.ShownRow.{ShownRow}
 use Rattle.metrics_exposition.specs.Naming.{Display}
 use Rattle.metrics_prometheus.specs.Exposition.{Row, row_of, row_cmp, reading_at, AreRows}
 use Rattle.metrics_prometheus.specs.Rows.{row_shown, rows_shown, pair_shown, pair_of, keyed_shown, Shows}

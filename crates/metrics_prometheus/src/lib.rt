@@ -6,6 +6,7 @@ mod laws;
 mod listing;
 mod reasons;
 mod repeated;
+mod row;
 mod rows;
 mod taken;
 mod text;

@@ -9,9 +9,9 @@ ghost use Rattle.metrics_prometheus.specs.Exposition.{same_name_reason, last_rea
 ghost use Rattle.metrics_prometheus.specs.Exposition.{reason_text, series_named, left_out_line};
 ghost use Rattle.metrics_exposition.specs.Names.{help_escaped};
 
-use crate::rows::ShownRow;
+use crate::row::ShownRow;
 use crate::taken::whole_of;
-use metrics::{Label, MetricKind};
+use metrics::MetricKind;
 use metrics_exposition::{are_equal, repeats, reserved_of, write_help_text, write_labels};
 use std::alloc::AllocError;
 
@@ -32,14 +32,19 @@ pub(crate) enum Reason<'r> {
 
 ghost use Rattle.metrics_prometheus.specs.Rows.{reason_shown, row_shown, names_shown};
 
-fn labels_reason(kind: MetricKind, labels: &[Label]) -> Option<Reason<'_>>
-    requires { IsSorted label_cmp labels.now }
-    ensures { option_map reason_shown result ≡ labels_reason kind labels.now }
+/// Why a row's labels keep it from the text.
+fn labels_reason<'r>(row: &'r ShownRow<'_>) -> Option<Reason<'r>>
+    requires { IsSorted label_cmp row.now.labels }
+    ensures { option_map reason_shown result ≡ labels_reason row.now.kind row.now.labels }
 {
+    if row.is_fit {
+        return None;
+    }
+    let labels = row.labels.as_slice();
     if repeats(labels) {
         return Some(Reason::LabelTwice);
     }
-    match reserved_of(kind, labels) {
+    match reserved_of(row.kind, labels) {
         Some(name) => Some(Reason::LabelReserved(name)),
         None => None,
     }
@@ -94,7 +99,7 @@ pub(crate) fn reason_of<'r>(
     ensures { (rows : List Row) → names_shown histograms.now ≡ histogram_names rows → option_map reason_shown result
         ≡ reason_of rows (option_map (λ w. row_shown w.now) last.entry) (row_shown row.now) }
 {
-    if let Some(reason) = labels_reason(row.kind, row.labels.as_slice()) {
+    if let Some(reason) = labels_reason(row) {
         return Some(reason);
     }
     if let Some(reason) = name_reason(histograms, row.name.as_str().as_bytes()) {

@@ -6,7 +6,7 @@ ghost use Rattle.metrics_prometheus.specs.Repeated.{repeated_line};
 
 use crate::counted::CountedText;
 use crate::reasons::{Reason, write_left_out};
-use crate::rows::ShownRow;
+use crate::row::ShownRow;
 use metrics::{Error, Key, MetricKind};
 use metrics_exporter::ReadingRef;
 use metrics_exposition::{ShownName, shown_labels};
@@ -29,6 +29,7 @@ pub fn write_repeated(
         kind,
         places: 0,
         labels,
+        is_fit: false,
         key,
         help: None,
         reading: ReadingRef::Count(0),

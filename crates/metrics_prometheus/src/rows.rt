@@ -1,12 +1,15 @@
 //! Series in the order in which they are written.
 ghost use Rattle.std.specs.Prelude.{◌≡◌, List, MatchResult, OnOk, IfOk, IsTrue, All, map};
 ghost use Rattle.std.specs.List.{AllByRecursion};
+ghost use Rattle.std.specs.Str.{IsUtf8};
 ghost use Rattle.metrics.specs.declared.error.Error.TheVariants.{Memory as OutOfMemory};
 ghost use Rattle.metrics_exporter.specs.Readings.{KeyedReading, keyed_reading};
+ghost use Rattle.metrics_exposition.specs.Labels.{AreReady, shown_labels};
 ghost use Rattle.metrics_prometheus.specs.Exposition.{row_cmp};
 ghost use Rattle.metrics_exposition.specs.Reading.{IsOfKind};
 ghost use Rattle.metrics_prometheus.specs.Rows.{HasTexts};
 
+use crate::row::ShownRow;
 use metrics::{Error, Key, Label, MetricKind};
 use metrics_exporter::{Descriptions, ReadingRef, SeriesReading};
 use metrics_exposition::{
@@ -14,24 +17,6 @@ use metrics_exposition::{
     reading_kind, shown_labels, shown_name, shown_places,
 };
 use std::alloc::{AllocError, Global};
-
-/// A series as Prometheus is shown it: name, kind and labels, and beside them its own key. Rows compare in this order. The
-/// description of the name and what the series has go along.
-#[derive(Drop)]
-#[derive_where(PartialEq, Eq, PartialOrd, Ord)]
-pub(crate) struct ShownRow<'a> {
-    pub name: ShownName<'a>,
-    pub kind: MetricKind,
-    /// The decimal places of its numbers.
-    #[derive_where(skip)]
-    pub places: u16,
-    pub labels: ShownItems<'a, Label>,
-    pub key: &'a Key,
-    #[derive_where(skip)]
-    pub help: Option<&'a str>,
-    #[derive_where(skip)]
-    pub reading: ReadingRef<'a>,
-}
 
 /// What a kind and name are shown with.
 #[derive(Drop)]
@@ -54,7 +39,7 @@ ghost use Rattle.metrics_descriptions.specs.Legends.{described_by};
 ghost use Rattle.metrics_exposition.specs.Naming.{Display, display_by};
 ghost use Rattle.metrics_prometheus.specs.Rows.{row_shown, pair_shown, pair_of, AreRowsOf};
 ghost use Rattle.metrics_prometheus.specs.Heads.{head_shown, IsKnown};
-ghost use Rattle.metrics_prometheus.specs.declared.rows.ShownRow.{ShownRow as RowParts};
+ghost use Rattle.metrics_prometheus.specs.declared.row.ShownRow.{ShownRow as RowParts};
 
 /// Looks up what a kind and name are shown with.
 fn found_head<'a, P: DecimalPlaces>(
@@ -140,6 +125,22 @@ fn head_of<'a, P: DecimalPlaces>(
     Ok(head)
 }
 
+/// The labels that Prometheus is shown. Ready ones are the key's own.
+fn labels_of<'a>(
+    alloc: Global,
+    key: &'a Key,
+    is_ready: bool,
+) -> Result<ShownItems<'a, Label>, Error>
+    requires { IsTrue is_ready → AreReady key.now.labels }
+    ensures shown { MatchResult result (λ shown. shown ≡ shown_labels key.now.labels) (λ e. e ≡ OutOfMemory) }
+    ensures texts { OnOk result (All (λ l. IsUtf8 l.1) key.now.labels) }
+{
+    if is_ready {
+        return Ok(ShownItems::given(key.labels()));
+    }
+    shown_labels(alloc, key.labels())
+}
+
 /// The row of a series. What its kind and name are shown with is kept for the next one.
 fn row_of<'a, P: DecimalPlaces>(
     alloc: Global,
@@ -148,8 +149,10 @@ fn row_of<'a, P: DecimalPlaces>(
     descriptions: &'a Descriptions,
     last: &mut Option<Known<'a>>,
     series: SeriesReading<'a>,
+    is_ready: bool,
 ) -> Result<ShownRow<'a>, Error>
-    requires { IfSome last.old (IsKnown (display_by naming (described_by descriptions.now) (P.places scale.now))) }
+    requires known { IfSome last.old (IsKnown (display_by naming (described_by descriptions.now) (P.places scale.now))) }
+    requires ready { IsTrue is_ready → AreReady (keyed_reading series).0.key.labels }
     ensures row { MatchResult result
         (λ row. pair_shown row
         ≡ pair_of (display_by naming (described_by descriptions.now) (P.places scale.now)) (keyed_reading series.entry))
@@ -160,13 +163,14 @@ fn row_of<'a, P: DecimalPlaces>(
 {
     reading_kind(series.reading);
     let kind = series.reading.kind();
-    let labels = shown_labels(alloc, series.key.labels())?;
+    let labels = labels_of(alloc, series.key, is_ready)?;
     let head = head_of(alloc, naming, scale, descriptions, last, kind, series.key)?;
     let Head { name, help, places } = head;
     Ok(ShownRow {
         name,
         kind,
         labels,
+        is_fit: is_ready,
         key: series.key,
         help,
         places,
@@ -192,7 +196,15 @@ pub(crate) fn rows_of<'a, P: DecimalPlaces, S: ReadSeries>(
     let mut rows = Vec::with_capacity(alloc, series.len())?;
     let mut last = None;
     for one in series {
-        let row = row_of(alloc, naming, scale, descriptions, &mut last, one.reading())?;
+        let row = row_of(
+            alloc,
+            naming,
+            scale,
+            descriptions,
+            &mut last,
+            one.reading(),
+            one.has_ready_labels(),
+        )?;
         rows.push(row)?;
     }
     Ok(rows)

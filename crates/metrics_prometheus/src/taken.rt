@@ -10,9 +10,10 @@ ghost use Rattle.metrics_prometheus.specs.Exposition.{histogram_names, found_in,
 ghost use Rattle.metrics_prometheus.specs.Places.{rows_placed};
 ghost use Rattle.metrics_prometheus.specs.Rows.{row_shown, rows_shown, names_shown};
 
-use crate::rows::{Place, ShownRow};
+use crate::row::{ShownRow, is_fit};
+use crate::rows::Place;
 use metrics::MetricKind;
-use metrics_exposition::{are_fit, is_last};
+use metrics_exposition::is_last;
 use std::alloc::{AllocError, Global};
 use std::cmp::Ordering;
 
@@ -21,7 +22,7 @@ fn is_fit_number(row: &ShownRow<'_>) -> bool
     requires { IsSorted label_cmp row.now.labels }
     ensures { result ≡ is_fit_number (row_shown row.now) }
 {
-    row.kind != MetricKind::Histogram && are_fit(row.kind, row.labels.as_slice())
+    row.kind != MetricKind::Histogram && is_fit(row)
 }
 
 /// The name of the fit counter or gauge that came last.
@@ -41,7 +42,7 @@ fn is_fit_histogram(row: &ShownRow<'_>) -> bool
     requires { IsSorted label_cmp row.now.labels }
     ensures { result ≡ is_fit_histogram (row_shown row.now) }
 {
-    row.kind == MetricKind::Histogram && are_fit(row.kind, row.labels.as_slice())
+    row.kind == MetricKind::Histogram && is_fit(row)
 }
 
 /// Returns whether a name is a part of a histogram of these names.

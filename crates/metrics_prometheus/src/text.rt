@@ -24,7 +24,8 @@ ghost use Rattle.metrics_exposition.specs.Samples.{lines};
 
 use crate::counted::CountedText;
 use crate::reasons::{reason_of, write_left_out};
-use crate::rows::{Place, ShownRow, rows_of, sorted_rows};
+use crate::row::ShownRow;
+use crate::rows::{Place, rows_of, sorted_rows};
 use crate::taken::histogram_names;
 use metrics::Error;
 use metrics_exporter::{Descriptions, Exporter, ReadingRef};

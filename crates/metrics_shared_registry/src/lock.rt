@@ -48,9 +48,10 @@ fn is_unread(word: u64) -> bool
 
 /// A value that many threads may read at once, or one may change.
 ///
-/// A reader changes the slot's word once as it comes, and once as it leaves. It comes only at `PRESENT`. A writer that finds
-/// readers marks the word, so that no more come, and waits until the last has left. Then it takes the value out, and leaves
-/// the word marked until it puts the value back.
+/// A reader changes the slot's word once as it comes, and once as it leaves. It comes only at `PRESENT`, which it looks for
+/// first: a compare-exchange that fails takes the word from the other readers. A writer that finds readers marks the word, so
+/// that no more come, and waits until the last has left. Then it takes the value out, and leaves the word marked until it puts
+/// the value back.
 ///
 /// No contract says what the value is, since other threads may change it at any time.
 #[derive(Drop)]

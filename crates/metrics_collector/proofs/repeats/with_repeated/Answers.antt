@@ -1,5 +1,4 @@
-use Rattle.std.proofs.Common.{◌≡◌, ◌∙◌, ◌++◌, [], ℕ, List, take, ap, sym, string_bytes, append-nil}
-use Rattle.metrics_names.specs.declared.kind.MetricKind.{MetricKind}
+use Rattle.std.proofs.Common.{◌∙◌, ◌++◌, [], ℕ, List, take, ap, sym, string_bytes, append-nil}
 use Rattle.metrics_exporter.specs.Gathering.{series_at}
 use Rattle.metrics_prometheus.specs.declared.counted.CountedText.{CountedText}
 use Rattle.metrics_prometheus.specs.Repeated.{repeated_line}
@@ -18,7 +17,7 @@ loop-at-preserved c =
     (elim c.if-has_series.branch [
       | then-has_series+in_ok-all w ↦
           ap (λ (t : CountedText). string_bytes t.text) w.all-is ∙ w.in_ok-all.ensures.ok
-          ∙ ap (λ l. text ++ l) (ap (λ (k : MetricKind). repeated_line (series_at k row.key)) w.kind.ensures ∙ sym (line-when (take i rows) row (sym c.has_series.ensures ∙ w.if-has_series.true)))
+          ∙ ap (λ l. text ++ l) ((λ j. repeated_line (series_at (w.kind.ensures j) (w.get.ensures j))) ∙ sym (line-when (take i rows) row (sym c.has_series.ensures ∙ w.if-has_series.true)))
       | else-has_series w ↦
           ap (λ (t : CountedText). string_bytes t.text) w.all-is ∙ sym (append-nil text) ∙ ap (λ l. text ++ l) (sym (no-line (take i rows) row (sym c.has_series.ensures ∙ w.if-has_series.false)))
     ])

@@ -1,13 +1,18 @@
-use Rattle.std.proofs.Common.{◌∙◌, ap, subst}
+use Rattle.std.proofs.Common.{◌∙◌, ap, sym, subst}
 use Rattle.std.specs.Prelude.{All}
 use Rattle.std.proofs.lemmas.List.{take_all}
 use Rattle.std.proofs.lemmas.List.Elements.{All-map, All-more}
 use Rattle.metrics_descriptions.specs.Legends.{described_by}
 use Rattle.metrics_exposition.specs.Naming.{display_by}
+use Rattle.metrics_exporter.specs.Readings.{KeyedReading}
+use Rattle.metrics_exposition.specs.Labels.{AreReady}
 use Rattle.metrics_exposition.specs.Reading.{IsOfKind}
 use Rattle.metrics_prometheus.specs.Rows.{pair_of, HasTexts}
 use Rattle.metrics_prometheus.proofs.RowLemmas.{rows-more}
 use Rattle.metrics_prometheus.proofs.rows.rows_of.Goals as goal
+
+pub row_of-requires-clause-ready : goal.row_of-requires-clause-ready
+row_of-requires-clause-ready g c = λ is. subst (λ (t : KeyedReading). AreReady t.0.key.labels) (sym c.reading.ensures) (c.has_ready_labels.ensures is)
 
 pub loop-one-preserved : goal.loop-one-preserved
 loop-one-preserved g c =

@@ -5,9 +5,9 @@ use Rattle.std.specs.List.Sorted.{IsStrictlySortedBy}
 use Rattle.std.proofs.lemmas.Fn.{dedup_same}
 use Rattle.std.proofs.lemmas.List.Kept.{IsStrictlySortedBy-dedup}
 use Rattle.std.proofs.lemmas.List.Sorted.{IsPermutation-map}
-use Rattle.metrics_prometheus.specs.contracts.rows.ShownRowPartialEq.TheImpl.{ghosts}
-use Rattle.metrics_prometheus.specs.contracts.rows.ShownRowOrd.TheImpl.Laws.{total-law, matches_eq-law}
-use Rattle.metrics_prometheus.specs.declared.rows.ShownRow.{ShownRow}
+use Rattle.metrics_prometheus.specs.contracts.row.ShownRowPartialEq.TheImpl.{ghosts}
+use Rattle.metrics_prometheus.specs.contracts.row.ShownRowOrd.TheImpl.Laws.{total-law, matches_eq-law}
+use Rattle.metrics_prometheus.specs.declared.row.ShownRow.{ShownRow}
 use Rattle.metrics_prometheus.specs.declared.rows.Place.{Place}
 use Rattle.metrics_prometheus.specs.Exposition.{row_cmp}
 use Rattle.metrics_prometheus.specs.Places.{rows_placed}

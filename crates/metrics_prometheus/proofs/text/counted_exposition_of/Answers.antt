@@ -5,7 +5,7 @@ use Rattle.metrics_exporter.specs.Readings.{cells_of_readings, AreReadings, AreO
 use Rattle.std.specs.List.Sorted.{IsSorted}
 use Rattle.metrics_names.specs.Names.{label_cmp}
 use Rattle.metrics_prometheus.specs.Exposition.{row_cmp, rows_text, IsScaled}
-use Rattle.metrics_prometheus.specs.declared.rows.ShownRow.{ShownRow}
+use Rattle.metrics_prometheus.specs.declared.row.ShownRow.{ShownRow}
 use Rattle.metrics_prometheus.specs.declared.rows.Place.{Place}
 use Rattle.metrics_descriptions.specs.Legends.{described_by}
 use Rattle.metrics_exposition.specs.Naming.{display_by}

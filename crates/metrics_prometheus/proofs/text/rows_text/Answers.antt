@@ -8,7 +8,7 @@ use Rattle.metrics_names.specs.Names.{label_cmp}
 use Rattle.metrics_exporter.specs.Readings.{reading_shown}
 use Rattle.metrics_prometheus.specs.Exposition.{Row, histogram_names, is_left_out, last_after, row_lines, rows_text, reading_at}
 use Rattle.metrics_exporter.specs.Exporting.{Cells}
-use Rattle.metrics_prometheus.specs.declared.rows.ShownRow.{ShownRow}
+use Rattle.metrics_prometheus.specs.declared.row.ShownRow.{ShownRow}
 use Rattle.metrics_prometheus.specs.declared.rows.Place.{Place}
 use Rattle.metrics_prometheus.specs.Places.{rows_placed}
 use Rattle.metrics_prometheus.specs.Rows.{row_shown, rows_shown, names_shown, Shows}
