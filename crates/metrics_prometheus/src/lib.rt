@@ -19,7 +19,8 @@ pub use metrics_exporter::{
     Described, Descriptions, Exporter, ReadingRef, SeriesReading, SeriesRef,
 };
 pub use metrics_exposition::{
-    BadLabel, DecimalPlaces, Naming, ReadSeries, WholeNumbers, bad_label, first_bad_label,
+    BadLabel, DecimalPlaces, Naming, ReadSeries, WholeNumbers, are_ready, bad_label,
+    first_bad_label,
 };
 pub use repeated::write_repeated;
 pub use text::{

@@ -2,8 +2,10 @@
 ghost use Rattle.std.specs.Prelude.{◌≡◌, ◌%◌, ◌<◌, IsTrue, IsSome, IfSome, IfErr, IsSomeAnd};
 ghost use Rattle.std.specs.Box.{box_value};
 ghost use Rattle.counted_slot.specs.Counting.{readers};
+ghost use Rattle.crossbeam_utils.specs.Padded.{padded_value};
 
 use counted_slot::{Claim, Counted, Fits, MARKED, MOST_READERS, ONE_READER, PRESENT, TAKEN};
+use crossbeam_utils::CachePadded;
 use std::alloc::{AllocError, Global};
 use std::hint::spin_loop;
 use std::ops::{Deref, DerefMut};
@@ -15,9 +17,9 @@ const LOOKS: u32 = 100;
 
 /// What a lock's slot holds: the value, or nothing while a writer has it.
 ///
-/// Readers that come change the word beside it, so the value itself is elsewhere.
+/// Readers change the word beside it as they come and leave, so what they read is on other cache lines, and so is the value.
 #[derive(Drop)]
-pub(crate) struct Kept<T>(Option<Box<T>>);
+pub(crate) struct Kept<T>(CachePadded<Option<Box<T>>>);
 
 impl<T> Fits for Kept<T> {
     type Tag = ();
@@ -69,7 +71,7 @@ impl<T: Drop> Lock<T> {
         let lock = Lock {
             turn: Mutex::new(()),
             sleeps: AtomicU64::new(0),
-            slot: Counted::new(Kept(None), &()),
+            slot: Counted::new(Kept(CachePadded::new(None)), &()),
         };
         lock.give(Box::new(alloc, value)?);
         Ok(lock)
@@ -167,7 +169,12 @@ impl<T: Drop> Lock<T> {
             claim.done();
             return Err(value);
         }
-        Ok(claim.put(Kept(value), state).0)
+        Ok(
+            claim
+                .put(Kept(CachePadded::new(value)), state)
+                .0
+                .into_inner(),
+        )
     }
 
     /// Keeps new readers out.
@@ -226,7 +233,7 @@ pub(crate) struct ReadGuard<'a, T> {
     lock: &'a Lock<T>,
     claim: Claim<'a, Kept<T>>,
     ghost reads: { claim.right ≡ 1 },
-    ghost filled: { ∥ IsSomeAnd claim.value (λ kept. IsSome kept.0) ∥₁ },
+    ghost filled: { ∥ IsSomeAnd claim.value (λ kept. IsSome (padded_value kept.0)) ∥₁ },
 }
 
 impl<'a, T> ReadGuard<'a, T> {
@@ -247,11 +254,11 @@ impl<'a, T> ReadGuard<'a, T> {
 impl<T> Deref for ReadGuard<'_, T> {
     type Target = T;
 
-    ghost deref_gives = { λ g x. IfSome g.claim.value (λ kept. IfSome kept.0 (λ b. x ≡ box_value b)) };
+    ghost deref_gives = { λ g x. IfSome g.claim.value (λ kept. IfSome (padded_value kept.0) (λ b. x ≡ box_value b)) };
 
     #[inline(always)]
     fn deref(&self) -> &T {
-        match &self.claim.get().0 {
+        match &*self.claim.get().0 {
             Some(value) => value,
             None => unreachable!(),
         }

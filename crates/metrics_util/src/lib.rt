@@ -6,7 +6,7 @@ pub mod collector {
     pub use metrics_collector::{
         AbsorbError, BadLabel, Bounds, BoundsError, Collector, CounterHandle, Described,
         Descriptions, Gathered, GatheredSeries, GaugeHandle, HistogramHandle, LEFT_OUT_NAME,
-        LabelList, Naming, Value, left_out, quantile_bound,
+        LabelList, Naming, RowKey, Value, left_out, quantile_bound,
     };
 }
 
@@ -23,7 +23,7 @@ pub mod exporter {
         SeriesReading, SeriesRef, exporter_law,
     };
     pub use metrics_prometheus::{
-        Naming, ReadSeries, exposition, exposition_law, exposition_named, exposition_of,
+        Naming, ReadSeries, are_ready, exposition, exposition_law, exposition_named, exposition_of,
         exposition_text_law, left_out,
     };
     pub use metrics_textfile::{TextfileError, textfile_place, write_textfile};

@@ -15,7 +15,7 @@ pub mod exporter {
         SeriesReading, SeriesRef, exporter_law,
     };
     pub use metrics_prometheus::{
-        Naming, ReadSeries, exposition, exposition_law, exposition_named, exposition_of,
+        Naming, ReadSeries, are_ready, exposition, exposition_law, exposition_named, exposition_of,
         exposition_text_law, left_out,
     };
     pub use metrics_textfile::{TextfileError, textfile_place, write_textfile};

@@ -1,4 +1,4 @@
-use Rattle.std.proofs.Common.{◌∙◌, sym, refl, rules}
+use Rattle.std.proofs.Common.{◌∙◌, sym, rules}
 use Rattle.metrics_exposition.proofs.LabelLemmas.{shown-whole, fit-any}
 use Rattle.metrics_exposition.proofs.labels.are_ready.Goals as goal
 use Rattle.metrics_exposition.proofs.labels.are_ready.Goals.{then-are_sorted, else-are_sorted}

@@ -1,4 +1,4 @@
-use Rattle.std.proofs.Common.{◌∙◌, sym, subst}
+use Rattle.std.proofs.Common.{subst}
 use Rattle.metrics_exposition.specs.Labels.{AreReady}
 use Rattle.metrics_exposition.proofs.series.SeriesReadingReadSeries.has_ready_labels.Goals as goal
 
