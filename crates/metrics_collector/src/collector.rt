@@ -392,7 +392,7 @@ impl Collector {
     ///
     /// # Memory
     ///
-    /// The collector keeps the rows of its last text for the next one: some 60 bytes and its name for each series, and for a
+    /// The collector keeps the rows of its last text for the next one: some 70 bytes and its name for each series, and for a
     /// histogram 80 bytes more, and 8 for each bound.
     pub fn render<W: Wait>(&self, rt: &W, alloc: Global, now: u64) -> Result<String, Error>
         ensures text { IfOk result (λ text. (legend : Legend) × (gathered : GatheredParts) × (kept : List KeyedReading)
