@@ -1,5 +1,5 @@
 -- What the rule allows each step on the table.
-use Rattle.std.proofs.Common.{Bool, true, false, ◌≡◌, ℕ, zero, suc, ◌+◌, ◌*◌, ◌/◌, ◌%◌, ◌<◌, ◌≤◌, eqb, List, [], ◌∷◌, ◌++◌, length, get_or, set, drop, replicate, refl, sym, ap, ◌∙◌, subst, arith, eq-eqb, ne_eqb, length-append, length-take, length-drop}
+use Rattle.std.proofs.Common.{Bool, true, false, ◌≡◌, ℕ, zero, suc, ◌+◌, ◌*◌, ◌/◌, ◌%◌, ◌^◌, ◌<◌, ◌≤◌, eqb, List, [], ◌∷◌, ◌++◌, length, get_or, set, drop, replicate, refl, sym, ap, ◌∙◌, subst, arith, eq-eqb, ne_eqb, length-append, length-take, length-drop, get_or-set_same, get_or-set_other}
 use mathlib.Core.Logic.{dite}
 use Rattle.std.proofs.lemmas.Bool.{false≢true}
 use mathlib.Core.Option.{none, some, some-ne-none}
@@ -14,18 +14,21 @@ use Rattle.metrics_bucket.specs.declared.view.Push.{Push}
 use Rattle.metrics_bucket.specs.declared.view.Turn.{Turn}
 use Rattle.metrics_bucket.specs.declared.view.Hold.{Hold}
 use Rattle.metrics_bucket.specs.declared.view.Hold.TheVariants.{Nothing, Ticket, Written, Settling}
-use Rattle.metrics_bucket.specs.BucketState.{BucketState, base, place_index, words_of, live_values, new_view, first_view, holding, holding_at, seeing, pushing, total, walks_of, walks_made, Act, look, ticket, write, finish, look_to_settle, split, join, state_after, left_part, right_part, both_parts}
-use Rattle.metrics_bucket.specs.Facts.{weigh, weigh_pushes, HoldFits, Facts}
+use Rattle.metrics_bucket.specs.BucketState.{BucketState, base, place_index, blocks_of, side_marks, bits, packed, words_of, live_values, new_view, first_view, holding, holding_at, seeing, pushing, total, walks_of, walks_made, Act, look, ticket, write, finish, look_to_settle, split, join, state_after, left_part, right_part, both_parts}
+use Rattle.metrics_bucket.specs.Facts.{weigh, weigh_pushes, ticket_in, HoldFits, Facts}
 use Rattle.metrics_bucket.specs.Steps.{Seated, IsControl, control_looked, weight_looked, ticket_drawn, value_written, push_finished, live_side_looked, settled_value_looked}
-use Rattle.metrics_bucket.specs.History.{May, Runs, start, begins, IsPlain, turn_at, at_home, homes_of, FollowsHistory}
+use Rattle.metrics_bucket.specs.History.{May, Event, Runs, start, begins, IsPlain, turn_at, at_home, homes_of, FollowsHistory}
 use Rattle.metrics_bucket.proofs.PlacedAlways.{placed}
 use Rattle.metrics_bucket.proofs.Covering.{covers}
 use Rattle.metrics_bucket.proofs.Histories.{facts}
 use Rattle.metrics_bucket.proofs.Opening.{Ran, more, runs_more, start_more, light_more, get_last, set_last, ran_on, whole_all, whole_closed, most_weight}
-use Rattle.metrics_bucket.proofs.Sums.{total_set, total_snoc, index_below}
+use Rattle.metrics_bucket.proofs.Sums.{total_set, total_snoc, index_below, index_apart, same_here}
+use Rattle.metrics_bucket.proofs.Keep.{alone}
+use Rattle.metrics_bucket.proofs.MarkWords.{mark_le}
+use Rattle.metrics_bucket.proofs.Packed.{bits_more, bits_below, side_mark, side_same, packed_get, packed_set, packed_none}
 use Rattle.metrics_bucket.proofs.Leaving.{whole_live, learns, learns_reads}
 use Rattle.metrics_bucket.proofs.Shares.{zeros}
-use Rattle.metrics_bucket.proofs.ListParts.{set_left, set_right, get_left, get_take_drop}
+use Rattle.metrics_bucket.proofs.ListParts.{set_left, set_right, get_left, get_right, get_take_drop}
 
 abbrev pub TableState : Type 0
 TableState = State Turn View
@@ -60,7 +63,7 @@ live_length places all w f = let a = f.values_long in let b = f.room in let c = 
 module _ (places : ℕ) (many : Bool) where
   -- the state after a step that takes or gives what goes with the turn, by the state after it
   pub moved_by : (s : TableState) (k : FollowsHistory places many s) (i n id : ℕ) (cs : List (ℕ × Turn)) (v u : View) (act : Act) (slot : SlotAct Turn) → get_elem? k.1.views id ≡ some v → 0 < v.weight → May places k.2.0 k.1 id v act
-      → words_of (state_after places k.1 id v act) ≡ set (words_of k.1) i n → (state_after places k.1 id v act).views ≡ set k.1.views id u
+      → words_of places (state_after places k.1 id v act) ≡ set (words_of places k.1) i n → (state_after places k.1 id v act).views ≡ set k.1.views id u
       → homes_of (state_after places k.1 id v act) ≡ homes_after s.homes cs slot → (many ≡ true → IsPlain act)
       → FollowsHistory places many (stepped s i n id cs u slot)
   moved_by s k i n id cs v u act slot there has may words views homes plain = (
@@ -72,15 +75,26 @@ module _ (places : ℕ) (many : Bool) where
     homes,
   )
 
+  -- the state after more acts
+  pub arrived : (s : TableState) (k : FollowsHistory places many s) (i n id : ℕ) (cs : List (ℕ × Turn)) (v u : View) (h : List Event) (w : BucketState) → Ran places many h w → get_elem? k.1.views id ≡ some v
+      → words_of places w ≡ set (words_of places k.1) i n → w.views ≡ set k.1.views id u → walks_of u ≡ walks_of v → w.turn ≡ k.1.turn → FollowsHistory places many (stepped s i n id cs u keeps)
+  arrived s k i n id cs v u h w ran there words views walks turn =
+      let made : walks_made w ≡ walks_made k.1 = (let t = total_set walks_of k.1.views id v u there in let e : walks_made w ≡ total walks_of (set k.1.views id u) = ap (total walks_of) views in omega arith) in (
+        h,
+        w,
+        ran,
+        words ∙ ap (λ (l : List ℕ). set l i n) k.3,
+        views ∙ ap (λ (l : List View). set l id u) k.4,
+        (λ j. at_home (turn j) (made j) ∷ []) ∙ k.5,
+      )
+
   -- the state after another step
   pub moved : (s : TableState) (k : FollowsHistory places many s) (i n id : ℕ) (cs : List (ℕ × Turn)) (v u : View) (act : Act) → get_elem? k.1.views id ≡ some v → 0 < v.weight → May places k.2.0 k.1 id v act
-      → words_of (state_after places k.1 id v act) ≡ set (words_of k.1) i n → (state_after places k.1 id v act).views ≡ set k.1.views id u
+      → words_of places (state_after places k.1 id v act) ≡ set (words_of places k.1) i n → (state_after places k.1 id v act).views ≡ set k.1.views id u
       → walks_of u ≡ walks_of v → (state_after places k.1 id v act).turn ≡ k.1.turn → (many ≡ true → IsPlain act)
       → FollowsHistory places many (stepped s i n id cs u keeps)
   moved s k i n id cs v u act there has may words views walks turn plain =
-      let w' : BucketState = state_after places k.1 id v act in
-      let made : walks_made w' ≡ walks_made k.1 = (let t = total_set walks_of k.1.views id v u there in let h : walks_made w' ≡ total walks_of (set k.1.views id u) = ap (total walks_of) views in omega arith) in
-      moved_by s k i n id cs v u act keeps there has may words views ((λ j. at_home (turn j) (made j) ∷ []) ∙ k.5) plain
+      arrived s k i n id cs v u (k.0 ++ record { by = id; act = act } ∷ []) (state_after places k.1 id v act) (ran_on places many k.0 k.1 id v act k.2 there has may plain) there words views walks turn
 
   pub still : (s : TableState) (k : FollowsHistory places many s) (i id : ℕ) (cs : List (ℕ × Turn)) (u : View) → get_elem? s.views id ≡ some u → FollowsHistory places many (stepped s i (get_or s.words i 0) id cs u keeps)
   still s k i id cs u at = (k.0, k.1, k.2, k.3 ∙ sym (set-get_or s.words i 0), k.4 ∙ sym (set_again s.views id u at), k.5)
@@ -152,7 +166,7 @@ module _ (places : ℕ) (many : Bool) where
         tt,
         subst (λ b. FollowsHistory places many (stepped s 0 (either b (old + 2) x) id me.1 u' keeps)) (sym (eq-eqb x old hit))
             (subst (λ (z : View). FollowsHistory places many (stepped s 0 (old + 2) id me.1 z keeps)) is
-            (moved s k 0 (old + 2) id me.1 me.0 u ticket there has (free, below_all) (let n : 2 * (w.given + 1) + w.live ≡ old + 2 = omega arith in (λ i. n i ∷ w.turn ∷ (w.values ++ w.marks))) refl refl refl (λ _. tt))),
+            (moved s k 0 (old + 2) id me.1 me.0 u ticket there has (free, below_all) (let n : 2 * (w.given + 1) + w.live ≡ old + 2 = omega arith in (λ i. n i ∷ w.turn ∷ (w.values ++ packed places w.marks))) refl refl refl (λ _. tt))),
         ((λ _. (w.epoch, refl)), (λ not. absurd (not hit)), whole_control s k id me.0 at free),
       ))
       (λ miss. (
@@ -177,23 +191,67 @@ module _ (places : ℕ) (many : Bool) where
         keeps,
         tt,
         moved st k word x id me.1 me.0 u (write s i x) there has e
-            (sym (ap (λ (z : ℕ). set (words_of w) z x) same_word ∙ ap (λ (l : List ℕ). (2 * w.given + w.live) ∷ w.turn ∷ l) (set_left w.values w.marks (place_index places s i) x (omega arith)))) refl refl refl (λ _. tt),
+            (sym (ap (λ (z : ℕ). set (words_of places w) z x) same_word ∙ ap (λ (l : List ℕ). (2 * w.given + w.live) ∷ w.turn ∷ l) (set_left w.values (packed places w.marks) (place_index places s i) x (omega arith)))) refl refl refl (λ _. tt),
         λ s' i' e'. ap (λ (z : Hold). (holding me.0 (written z x), me.1)) (sym e ∙ e'),
       )
 
-  pub marks : (slots id : ℕ) (me : Seated) (word s i x : ℕ) → 0 < me.0.weight → me.0.hold ≡ Written s i x → word ≡ 2 + (places + places) + place_index places s i
-      → Allows (FollowsHistory places many) slots id me word (λ _. 1) (λ _. push_finished (step slots word 1 0 none) me 1)
-  marks slots id me word s i x has e is st k _ at _ =
+  -- the word of a block's marks
+  pub marks_found : (st : TableState) (k : FollowsHistory places many st) (word s block : ℕ) → s < 2 → block < blocks_of places → word ≡ 2 + (places + places) + place_index (blocks_of places) s block
+      → get_or st.words word 0 ≡ bits (side_marks places s k.1.marks) (64 * block) 64
+  marks_found st k word s block a l is =
       let w : BucketState = k.1 in
+      let long = (facts places many st k).values_long in
+      let i : ℕ = place_index (blocks_of places) s block in
+      let same_word : word ≡ suc (suc ((places + places) + i)) = omega arith in
+      ap (λ (l : List ℕ). get_or l word 0) (sym k.3)
+      ∙ (ap (λ (z : ℕ). get_or (words_of places w) z 0) same_word ∙ (get_right w.values (packed places w.marks) ((places + places) + i) i (omega arith) ∙ packed_get places w.marks s block a l))
+
+  -- the words when the marks of one block change
+  pub marks_written : (st : TableState) (k : FollowsHistory places many st) (word s block n : ℕ) (marks : List ℕ) → s < 2 → block < blocks_of places → word ≡ 2 + (places + places) + place_index (blocks_of places) s block
+      → ((t i : ℕ) → t < 2 → i < places → (t ≡ s → 64 * block ≤ i → i < 64 * block + 64 → ⊥) → get_or k.1.marks (place_index places t i) 0 ≡ get_or marks (place_index places t i) 0)
+      → bits (side_marks places s marks) (64 * block) 64 ≡ n → (2 * k.1.given + k.1.live) ∷ k.1.turn ∷ (k.1.values ++ packed places marks) ≡ set (words_of places k.1) word n
+  marks_written st k word s block n marks a l is else now =
+      let w : BucketState = k.1 in
+      let long = (facts places many st k).values_long in
+      let i : ℕ = place_index (blocks_of places) s block in
+      let same_word : suc (suc ((places + places) + i)) ≡ word = omega arith in
+      ap (λ (l : List ℕ). (2 * w.given + w.live) ∷ w.turn ∷ (w.values ++ l)) (packed_set places w.marks marks s block a l else ∙ ap (λ (z : ℕ). set (packed places w.marks) i z) now)
+      ∙ (ap (λ (l : List ℕ). (2 * w.given + w.live) ∷ w.turn ∷ l) (sym (set_right w.values (packed places w.marks) ((places + places) + i) i n (omega arith))) ∙ ap (λ (z : ℕ). set (words_of places w) z n) same_word)
+
+  pub marks : (slots id : ℕ) (me : Seated) (word bit s i x : ℕ) → 0 < me.0.weight → me.0.hold ≡ Written s i x → word ≡ 2 + (places + places) + place_index (blocks_of places) s (i / 64) → bit ≡ 2 ^ (i % 64)
+      → Allows (FollowsHistory places many) slots id me word (λ n. (n + bit) % 2 ^ 64) (push_finished (step slots word bit 0 none) me)
+  marks slots id me word bit s i x has e is power st k _ at _ =
+      let w : BucketState = k.1 in
+      let f = facts places many st k in
       let there = seated st k id me.0 at in
       let u : View = pushing me.0 i x in
-      let long = (facts places many st k).values_long in
-      let same_word : word ≡ suc (suc ((places + places) + place_index places s i)) = omega arith in (
+      let fits : HoldFits places k.2.0 w me.0.weight (Written s i x) = subst (HoldFits places k.2.0 w me.0.weight) e (f.each id me.0 there).hold in
+      let free = (alone places k.2.0 w f id me.0 s i there fits.0 fits.1 (ap (ticket_in s i) e ∙ same_here s i s i refl refl)).0 in
+      let index : ℕ = place_index places s i in
+      let new : List ℕ = set w.marks index 1 in
+      let below = index_below places s i fits.1 in
+      let long = f.marks_long in
+      let inside = fits.1 in
+      let first : ℕ = 64 * (i / 64) in
+      let place : first + i % 64 ≡ i = omega arith in
+      let now : get_or new index 0 ≡ 1 = get_or-set_same w.marks index 1 0 (omega arith) in
+      let other : (t j : ℕ) → t < 2 → j < places → (t ≡ s → j ≡ i → ⊥) → get_or w.marks (place_index places t j) 0 ≡ get_or new (place_index places t j) 0 =
+      λ t j a b apart. sym (get_or-set_other w.marks index (place_index places t j) 1 0 (index_apart places t j s i a fits.0 b fits.1 apart))
+      in
+      let old_at : (marks : List ℕ) → get_or (side_marks places s marks) (first + i % 64) 0 ≡ get_or marks index 0 = λ marks. ap (λ (z : ℕ). get_or (side_marks places s marks) z 0) place ∙ side_mark places s marks i inside in
+      let more = bits_more (side_marks places s w.marks) (side_marks places s new) first 64 (i % 64) (omega arith) (old_at w.marks ∙ free) (old_at new ∙ now)
+      (λ j _ _ apart. side_same places s w.marks new j (λ in_side. other s j fits.0 in_side (λ _ q. apart (q ∙ sym place)))) in
+      let marks_after : (j : ℕ) → get_or (side_marks places s new) j 0 ≤ 1 = λ j. dite (ℕ_discrete j i)
+      (λ here. let a : get_or (side_marks places s new) j 0 ≡ 1 = ap (λ (z : ℕ). get_or (side_marks places s new) z 0) here ∙ (side_mark places s new i inside ∙ now) in omega arith)
+      (λ apart. let a = side_same places s w.marks new j (λ in_side. other s j fits.0 in_side (λ _ q. apart q)) in let b = mark_le places k.2.0 w f s j fits.0 in omega arith) in
+      let small : bits (side_marks places s new) first 64 < 2 ^ 64 = bits_below (side_marks places s new) first 64 (λ j _ _. marks_after j) in
+      let found = marks_found st k word s (i / 64) fits.0 (omega arith) is in
+      let sum : bits (side_marks places s new) first 64 ≡ (get_or st.words word 0 + bit) % 2 ^ 64 = omega arith in (
         u,
         keeps,
         tt,
-        moved st k word 1 id me.1 me.0 u (finish s i x) there has e
-            (sym (ap (λ (z : ℕ). set (words_of w) z 1) same_word ∙ ap (λ (l : List ℕ). (2 * w.given + w.live) ∷ w.turn ∷ l) (set_right w.values w.marks ((places + places) + place_index places s i) (place_index places s i) 1 (omega arith)))) refl refl refl (λ _. tt),
+        moved st k word ((get_or st.words word 0 + bit) % 2 ^ 64) id me.1 me.0 u (finish s i x) there has e
+            (marks_written st k word s (i / 64) ((get_or st.words word 0 + bit) % 2 ^ 64) new fits.0 (omega arith) is (λ t j a b apart. other t j a b (λ p q. apart p (omega arith) (omega arith))) sum) refl refl refl (λ _. tt),
         λ s' i' x' e'. ap (λ (z : Hold). (pushing me.0 (place_of z) (value_of z), me.1)) (sym e ∙ e'),
       )
 
@@ -242,8 +300,8 @@ module _ (places : ℕ) (many : Bool) where
               let in_range = index_below places w.live i (omega arith) in
               let same_word : word ≡ suc (suc (place_index places w.live i)) = (let a : place_index me.0.places side i ≡ place_index places w.live i = (λ z. place_index (size z) (fits.1 z) i) in omega arith) in
               ap (λ (l : List ℕ). get_or l word 0) (sym k.3)
-              ∙ (ap (λ (z : ℕ). get_or (words_of w) z 0) same_word
-              ∙ (get_left w.values w.marks (place_index places w.live i) (omega arith)
+              ∙ (ap (λ (z : ℕ). get_or (words_of places w) z 0) same_word
+              ∙ (get_left w.values (packed places w.marks) (place_index places w.live i) (omega arith)
               ∙ (sym (get_take_drop w.values (base places w.live) w.given i (omega arith)) ∙ sym (ap (λ (z : List ℕ). get_or z i 0) fits.2)))),
         ),
       )
@@ -284,10 +342,13 @@ module _ (places : ℕ) (many : Bool) where
   zeros-append zero m = let e : m ≡ 0 + m = omega arith in ap zeros e
   zeros-append (suc n) m = ap (λ (l : List ℕ). 0 ∷ l) (zeros-append n m) ∙ (let e : suc (n + m) ≡ suc n + m = omega arith in ap zeros e)
 
-  starts_words : (n : ℕ) → n ≡ 2 + 4 * places → 0 ∷ 0 ∷ (zeros (places + places) ++ zeros (places + places)) ≡ zeros n
-  starts_words n e = ap (λ (l : List ℕ). 0 ∷ 0 ∷ l) (zeros-append (places + places) (places + places)) ∙ (let q : suc (suc ((places + places) + (places + places))) ≡ n = omega arith in ap zeros q)
+  starts_words : (n : ℕ) → n ≡ 2 + 2 * places + 2 * blocks_of places → 0 ∷ 0 ∷ (zeros (places + places) ++ packed places (zeros (places + places))) ≡ zeros n
+  starts_words n e =
+      let b : ℕ = blocks_of places in
+      ap (λ (l : List ℕ). 0 ∷ 0 ∷ (zeros (places + places) ++ l)) (packed_none places (places + places) ∙ zeros-append b b)
+      ∙ (ap (λ (l : List ℕ). 0 ∷ 0 ∷ l) (zeros-append (places + places) (b + b)) ∙ (let q : suc (suc ((places + places) + (b + b))) ≡ n = omega arith in ap zeros q))
 
-pub starts : (many : Bool) (places n : ℕ) → n ≡ 2 + 4 * places → FollowsHistory places many (opening (replicate n 0) (turn_at 0 ∷ []) (first_view many places))
+pub starts : (many : Bool) (places n : ℕ) → n ≡ 2 + 2 * places + 2 * blocks_of places → FollowsHistory places many (opening (replicate n 0) (turn_at 0 ∷ []) (first_view many places))
 starts false places n e = ([], begins false places 1024, (1024, refl, refl), starts_words places false n e, refl, refl)
 starts true places n e =
     ([], begins true places 1, (1, refl, (tt, λ j v there. light_more places [] (λ i u none. absurd (some-ne-none u (sym none))) j v there)), starts_words places true n e, refl, refl)

@@ -12,7 +12,7 @@ use Rattle.metrics_bucket.specs.declared.view.Turn.{Turn}
 use Rattle.metrics_bucket.specs.declared.view.Hold.{Hold}
 use Rattle.metrics_bucket.specs.declared.view.Hold.TheVariants.{Nothing, Claimed, SideKnown, Reading, Clearing}
 use Rattle.metrics_bucket.specs.declared.view.Visit.TheVariants.{Unseen}
-use Rattle.metrics_bucket.specs.BucketState.{BucketState, other, words_of, walks_of, walks_made, holding, holding_at, claiming, finding_held, Act, claim, look_at_turn, look_to_read, look_to_clear, takes, state_after}
+use Rattle.metrics_bucket.specs.BucketState.{BucketState, other, packed, words_of, walks_of, walks_made, holding, holding_at, claiming, finding_held, Act, claim, look_at_turn, look_to_read, look_to_clear, takes, state_after}
 use Rattle.metrics_bucket.specs.Facts.{took_in, HoldFits}
 use Rattle.metrics_bucket.specs.Steps.{Seated}
 use Rattle.metrics_bucket.specs.History.{May, IsPlain, turn_at, at_home, FollowsHistory}
@@ -36,7 +36,7 @@ module _ (places : ℕ) (many : Bool) where
 
   -- a step that writes back what it found, by the state after it
   pub same_words : (s : TableState) (k : FollowsHistory places many s) (i id : ℕ) (cs : List (ℕ × Turn)) (v u : View) (act : Act) → get_elem? k.1.views id ≡ some v → 0 < v.weight → May places k.2.0 k.1 id v act
-      → words_of (state_after places k.1 id v act) ≡ words_of k.1 → (state_after places k.1 id v act).views ≡ set k.1.views id u → walks_of u ≡ walks_of v → (state_after places k.1 id v act).turn ≡ k.1.turn → (many ≡ true → IsPlain act)
+      → words_of places (state_after places k.1 id v act) ≡ words_of places k.1 → (state_after places k.1 id v act).views ≡ set k.1.views id u → walks_of u ≡ walks_of v → (state_after places k.1 id v act).turn ≡ k.1.turn → (many ≡ true → IsPlain act)
       → FollowsHistory places many (stepped s i (get_or s.words i 0) id cs u keeps)
   same_words s k i id cs v u act there has may words views walks turn plain =
       moved places many s k i (get_or s.words i 0) id cs v u act there has may (words ∙ (k.3 ∙ (sym (set-get_or s.words i 0) ∙ sym (ap (λ (l : List ℕ). set l i (get_or s.words i 0)) k.3)))) views walks turn plain
@@ -131,7 +131,7 @@ module _ (places : ℕ) (many : Bool) where
         keeps,
         tt,
         subst (λ (z : View). FollowsHistory places many (stepped st 0 new id me.1 z keeps)) same
-            (moved places many st k 0 new id me.1 me.0 u takes there has (s, e) (λ i. word i ∷ w.turn ∷ (w.values ++ w.marks)) refl refl refl (λ _. tt)),
+            (moved places many st k 0 new id me.1 me.0 u takes there has (s, e) (λ i. word i ∷ w.turn ∷ (w.values ++ packed places w.marks)) refl refl refl (λ _. tt)),
         λ s' e'. (
           w.epoch,
           (λ i. (holding_at me.0 w.epoch (Clearing (ap side_known (sym e ∙ e') i) (replicate (x / 2) Unseen)), me.1)),

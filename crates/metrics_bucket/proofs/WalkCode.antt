@@ -1,5 +1,5 @@
 -- What the code of a walk knows of its seat.
-use Rattle.std.proofs.Common.{◌≡◌, ◌≢◌, ◌⊎◌, ℕ, zero, suc, ◌+◌, ◌-◌, ◌*◌, ◌<◌, ◌≤◌, List, [], ◌∷◌, ◌++◌, length, get_or, set, take, drop, map, replicate, refl, sym, ap, ◌∙◌, subst, inl, inr, ⊎_elim, arith, le_refl, min, length-set, get_or-set_same}
+use Rattle.std.proofs.Common.{◌≡◌, ◌≢◌, ◌⊎◌, ℕ, zero, suc, ◌+◌, ◌-◌, ◌*◌, ◌<◌, ◌≤◌, List, [], ◌∷◌, ◌++◌, length, get_or, set, take, drop, map, replicate, refl, sym, ap, ◌∙◌, subst, inl, inr, ⊎_elim, arith, min, length-set, get_or-set_same}
 use Rattle.std.specs.List.{FoldsTo}
 use denote.Param.Members.{Called}
 use Rattle.std.specs.Fn.{CalledAt}
@@ -13,19 +13,19 @@ use mathlib.Core.Option.{some, some-injective}
 use lib.ListN.{get_elem?}
 use Rattle.atomic_table.proofs.Lists.{set_here, set_else}
 use Rattle.metrics_bucket.specs.declared.view.Hold.{Hold}
-use Rattle.metrics_bucket.specs.declared.view.Hold.TheVariants.{Nothing, Reading}
+use Rattle.metrics_bucket.specs.declared.view.Hold.TheVariants.{Nothing, Reading, Clearing}
 use Rattle.metrics_bucket.specs.declared.view.Visit.{Visit}
-use Rattle.metrics_bucket.specs.declared.view.Visit.TheVariants.{Unseen, Marked, Read}
-use Rattle.metrics_bucket.specs.BucketState.{other, place_index, walk, holding, holds_as, with_taken, leaving, left_from, put_visit, side_of, visits_of, value_in, values_in}
+use Rattle.metrics_bucket.specs.declared.view.Visit.TheVariants.{Unseen, Read, Wiped}
+use Rattle.metrics_bucket.specs.BucketState.{other, walk, holding, holds_as, with_taken, leaving, left_from, put_visit, side_of, visits_of, value_in, values_in}
 use Rattle.metrics_bucket.specs.History.{HasVisit, CanLeave, turn_at}
 use Rattle.metrics_bucket.specs.Blocks.{valued}
 use Rattle.metrics_bucket.specs.declared.view.Push.{Push}
-use Rattle.metrics_bucket.specs.WalkedPlaces.{with_walk, WalkKind, reads, clears, walking, visited, walk_of, IsWalked, Walks}
+use Rattle.metrics_bucket.specs.WalkedPlaces.{with_walk, WalkKind, reads, clears, walking, visited, walk_of, IsWalked, Goes, Walks}
 use Rattle.metrics_bucket.specs.ClearedPlaces.{has_taken, IsSideTaken}
 use Rattle.metrics_bucket.specs.Places.{Reaches, Finds, Covers}
 use Rattle.metrics_bucket.proofs.Blocks.{chunk, chunks_from, chunks_front, drop_more, part_next}
 use Rattle.metrics_bucket.specs.Steps.{Seated}
-use Rattle.metrics_bucket.specs.WalkSteps.{IsMarkOf, IsClearing}
+use Rattle.metrics_bucket.specs.WalkSteps.{IsClearing}
 use Rattle.metrics_bucket.specs.Facts.{weigh, weigh_pushes, weigh_walks}
 use Rattle.metrics_bucket.specs.declared.view.Walk.{Walk}
 use Rattle.metrics_bucket.specs.declared.view.View.{View}
@@ -58,14 +58,6 @@ leave_walking : (kind : WalkKind) (s : ℕ) (visits : List Visit) → ((i : ℕ)
 leave_walking reads s visits f = f
 leave_walking clears s visits f = f
 
-value_visited : (kind : WalkKind) (x : ℕ) → value_in (visited kind x) ≡ x
-value_visited reads x = refl
-value_visited clears x = refl
-
--- a walk's visit changes
-pub next_hold : (kind : WalkKind) (m n : Seated) (s at : ℕ) (visits : List Visit) (c : Visit) → m.0.hold ≡ walking kind s visits → n ≡ (holding m.0 (put_visit m.0.hold at c), m.1) → n.0.hold ≡ walking kind s (set visits at c)
-next_hold kind m n s at visits c h e = ap (λ (z : Seated). z.0.hold) e ∙ (ap (λ (z : Hold). put_visit z at c) h ∙ put_walking kind s at visits c)
-
 pub visit_there : (visits : List Visit) (at : ℕ) (b c : Visit) → get_elem? visits at ≡ some b → get_elem? (set visits at c) at ≡ some c
 visit_there visits at b c e = set_here visits at c (at_below visits at b e)
 
@@ -76,88 +68,60 @@ visits_now kind m s visits h = ap visits_of h ∙ visits_walking kind s visits
 pub has_visit : (kind : WalkKind) (m : Seated) (s at : ℕ) (c : Visit) → m.0.hold ≡ walking kind s (visits_of m.0.hold) → get_elem? (visits_of m.0.hold) at ≡ some c → HasVisit m.0.hold at c
 has_visit kind m s at c h e = subst (λ (z : Hold). HasVisit z at c) (sym h) (has_walking kind s at (visits_of m.0.hold) c e)
 
--- the mark of a place was seen
-pub place_marked : (kind : WalkKind) (m0 m1 : Seated) (s at : ℕ) → m0.0.hold ≡ walking kind s (visits_of m0.0.hold) → get_elem? (visits_of m0.0.hold) at ≡ some Unseen
-    → m1 ≡ (holding m0.0 (put_visit m0.0.hold at Marked), m0.1) → get_elem? (visits_of m1.0.hold) at ≡ some Marked
-place_marked kind m0 m1 s at h unseen e =
-    let visits : List Visit = visits_of m0.0.hold in
-    ap (λ (z : List Visit). get_elem? z at) (visits_now kind m1 s (set visits at Marked) (next_hold kind m0 m1 s at visits Marked h e)) ∙ visit_there visits at Unseen Marked unseen
+-- a walk that goes on, with other visits
+abbrev pub with_visits : Hold → List Visit → Hold
+with_visits (Reading s visits) vs = Reading s vs
+with_visits (Clearing s visits) vs = Clearing s vs
+with_visits hold vs = hold
 
--- a place was read, and what leaving it needs to know of it
-pub place_read : (kind : WalkKind) (m0 m1 : Seated) (s at x mark : ℕ) → m0.0.hold ≡ walking kind s (visits_of m0.0.hold) → get_elem? (visits_of m0.0.hold) at ≡ some Marked → IsMarkOf m0.0 mark at
-    → m1 ≡ (holding m0.0 (put_visit m0.0.hold at (Read x)), m0.1)
-    → IsMarkOf m1.0 mark at × (m1.0.hold ≡ walking kind (side_of m1.0.hold) (visits_of m1.0.hold)) × (get_elem? (visits_of m1.0.hold) at ≡ some (Read x))
-    × (m1 ≡ (holding m0.0 (walking kind s (set (visits_of m0.0.hold) at (Read x))), m0.1))
-place_read kind m0 m1 s at x mark h marked is e =
-    let visits : List Visit = visits_of m0.0.hold in
-    let new : List Visit = set visits at (Read x) in
-    let hold = next_hold kind m0 m1 s at visits (Read x) h e in
-    let now = visits_now kind m1 s new hold in
-    let side : side_of m1.0.hold ≡ s = ap side_of hold ∙ side_walking kind s new in
-    let sides : side_of m0.0.hold ≡ side_of m1.0.hold = ap side_of h ∙ (side_walking kind s visits ∙ sym side) in
-    let places : m0.0.places ≡ m1.0.places = sym (ap (λ (z : Seated). z.0.places) e) in (
-      is ∙ (λ i. 2 + (places i + places i) + place_index (places i) (sides i) at),
-      hold ∙ (λ i. walking kind (sym side i) (sym now i)),
-      ap (λ (z : List Visit). get_elem? z at) now ∙ visit_there visits at Marked (Read x) marked,
-      e ∙ (λ i. (holding m0.0 ((ap (λ (z : Hold). put_visit z at (Read x)) h ∙ put_walking kind s at visits (Read x)) i), m0.1)),
-    )
+pub put_visits : (kind : WalkKind) (s : ℕ) (visits vs : List Visit) → with_visits (walking kind s visits) vs ≡ walking kind s vs
+put_visits reads s visits vs = refl
+put_visits clears s visits vs = refl
 
--- and then left
-pub place_left : (kind : WalkKind) (m0 m1 m2 : Seated) (s at x : ℕ) (visits : List Visit) → m1 ≡ (holding m0.0 (walking kind s (set visits at (Read x))), m0.1)
-    → m2 ≡ (holding m1.0 (put_visit m1.0.hold at (visited kind x)), m1.1) → m2 ≡ (holding m0.0 (walking kind s (set visits at (visited kind x))), m0.1)
-place_left kind m0 m1 m2 s at x visits e1 e2 =
-    let new : Visit = visited kind x in
-    let last : put_visit m1.0.hold at new ≡ walking kind s (set visits at new) =
-    ap (λ (z : Seated). put_visit z.0.hold at new) e1 ∙ (put_walking kind s at (set visits at (Read x)) new ∙ ap (walking kind s) (set_twice visits at (Read x) new))
-    in
-    e2 ∙ ((λ i. (holding m1.0 (last i), m1.1)) ∙ ap (λ (z : Seated). (holding z.0 (walking kind s (set visits at new)), z.1)) e1)
-
--- a place was seen, read and left
-pub place_walked : (kind : WalkKind) (m0 m1 m2 : Seated) (s at x : ℕ) → m0.0.hold ≡ walking kind s (visits_of m0.0.hold) → m1 ≡ (holding m0.0 (put_visit m0.0.hold at Marked), m0.1)
-    → m2 ≡ (holding m1.0 (walking kind s (set (visits_of m1.0.hold) at (visited kind x))), m1.1) → m2 ≡ (holding m0.0 (walking kind s (set (visits_of m0.0.hold) at (visited kind x))), m0.1)
-place_walked kind m0 m1 m2 s at x h e1 e2 =
-    let visits : List Visit = visits_of m0.0.hold in
-    let now = visits_now kind m1 s (set visits at Marked) (next_hold kind m0 m1 s at visits Marked h e1) in
-    e2 ∙ ((λ i. (holding m1.0 (walking kind s ((ap (λ (z : List Visit). set z at (visited kind x)) now ∙ set_twice visits at Marked (visited kind x)) i)), m1.1))
-    ∙ ap (λ (z : Seated). (holding z.0 (walking kind s (set visits at (visited kind x))), z.1)) e1)
-
--- a reading walk leaves a place as it found it
-pub left_read : (visits : List Visit) (at x : ℕ) → get_elem? visits at ≡ some (Read x) → set visits at (Read x) ≡ visits
-left_read [] at x e = refl
-left_read (c ∷ cs) zero x e = λ i. sym (some-injective c (Read x) e) i ∷ cs
-left_read (c ∷ cs) (suc at) x e = λ i. c ∷ left_read cs at x e i
-
-pub walks_none : (kind : WalkKind) (m : Seated) (side start b : ℕ) → m.0.hold ≡ walking kind side (visits_of m.0.hold) → b ≤ start → Walks kind m m side start b
-walks_none kind m side start b h l = record {
+-- places that are of the form already
+pub goes_kept : (form : ℕ → Visit) (kind : WalkKind) (m : Seated) (side start end : ℕ) → m.0.hold ≡ walking kind side (visits_of m.0.hold) → ((i : ℕ) → start ≤ i → i < end → (x : ℕ) × (get_elem? (visits_of m.0.hold) i ≡ some (form x))) → Goes form kind m m side start end
+goes_kept form kind m side start end h there = record {
   me = λ i. (holding m.0 (h i), m.1);
   long = refl;
-  found = λ i j k. absurd (omega arith);
+  found = there;
   others = λ i _. refl;
 }
 
--- the walk read one more place
-pub walks_more : (kind : WalkKind) (m m1 m2 : Seated) (side start at x : ℕ) → Walks kind m m1 side start at → get_elem? (visits_of m1.0.hold) at ≡ some Unseen → start ≤ at
-    → m2 ≡ (holding m1.0 (walking kind side (set (visits_of m1.0.hold) at (visited kind x))), m1.1) → Walks kind m m2 side start (at + 1)
-walks_more kind m m1 m2 side start at x c there l e =
+pub goes_none : (form : ℕ → Visit) (kind : WalkKind) (m : Seated) (side start b : ℕ) → m.0.hold ≡ walking kind side (visits_of m.0.hold) → b ≤ start → Goes form kind m m side start b
+goes_none form kind m side start b h l = goes_kept form kind m side start b h (λ i j k. absurd (omega arith))
+
+pub goes_end : (form : ℕ → Visit) (kind : WalkKind) (m m' : Seated) (side start end end' : ℕ) → end ≡ end' → Goes form kind m m' side start end → Goes form kind m m' side start end'
+goes_end form kind m m' side start end end' e g = subst (λ (z : ℕ). Goes form kind m m' side start z) e g
+
+-- one place more
+pub goes_more : (form : ℕ → Visit) (kind : WalkKind) (m m1 m2 : Seated) (side start at x : ℕ) (old : Visit) → Goes form kind m m1 side start at → get_elem? (visits_of m1.0.hold) at ≡ some old → start ≤ at
+    → m2 ≡ (holding m1.0 (walking kind side (set (visits_of m1.0.hold) at (form x))), m1.1) → Goes form kind m m2 side start (suc at)
+goes_more form kind m m1 m2 side start at x old c there l e =
     let visits : List Visit = visits_of m1.0.hold in
-    let new : List Visit = set visits at (visited kind x) in
+    let new : List Visit = set visits at (form x) in
     let now : visits_of m2.0.hold ≡ new = ap (λ (z : Seated). visits_of z.0.hold) e ∙ visits_walking kind side new in
     record {
       me = e ∙ (ap (λ (z : Seated). (holding z.0 (walking kind side new), z.1)) c.me ∙ (λ i. (holding m.0 (walking kind side (sym now i)), m.1)));
-      long = ap length now ∙ (length-set visits at (visited kind x) ∙ c.long);
+      long = ap length now ∙ (length-set visits at (form x) ∙ c.long);
       found = λ i a b. dite (ℕ_discrete i at)
-          (λ here. (x, ap (λ (z : List Visit). get_elem? z i) now ∙ ((λ k. get_elem? new (here k)) ∙ visit_there visits at Unseen (visited kind x) there)))
-          (λ apart. let t = c.found i a (omega arith) in (t.0, ap (λ (z : List Visit). get_elem? z i) now ∙ (set_else visits at i (visited kind x) apart ∙ t.1)));
+          (λ here. (x, ap (λ (z : List Visit). get_elem? z i) now ∙ ((λ k. get_elem? new (here k)) ∙ visit_there visits at old (form x) there)))
+          (λ apart. let t = c.found i a (omega arith) in (t.0, ap (λ (z : List Visit). get_elem? z i) now ∙ (set_else visits at i (form x) apart ∙ t.1)));
       others = λ i o.
-          let apart : i ≢ at = λ same. ⊎_elim (λ (z : i < start). absurd (omega arith)) (λ (z : at + 1 ≤ i). absurd (omega arith)) o in
-          let o' : (i < start) ⊎ (at ≤ i) = ⊎_elim (λ (z : i < start). inl z) (λ (z : at + 1 ≤ i). inr (omega arith)) o in
-          ap (λ (z : List Visit). get_elem? z i) now ∙ (set_else visits at i (visited kind x) apart ∙ c.others i o');
+          let apart : i ≢ at = λ same. ⊎_elim (λ (z : i < start). absurd (omega arith)) (λ (z : suc at ≤ i). absurd (omega arith)) o in
+          let o' : (i < start) ⊎ (at ≤ i) = ⊎_elim (λ (z : i < start). inl z) (λ (z : suc at ≤ i). inr (omega arith)) o in
+          ap (λ (z : List Visit). get_elem? z i) now ∙ (set_else visits at i (form x) apart ∙ c.others i o');
     }
 
-pub values_set : (kind : WalkKind) (visits : List Visit) (i x : ℕ) → values_in (set visits i (visited kind x)) ≡ set (values_in visits) i x
-values_set kind [] i x = refl
-values_set kind (c ∷ cs) zero x = λ k. value_visited kind x k ∷ values_in cs
-values_set kind (c ∷ cs) (suc i) x = λ k. value_in c ∷ values_set kind cs i x k
+pub values_set : (visits : List Visit) (i x : ℕ) → values_in (set visits i (Read x)) ≡ set (values_in visits) i x
+values_set [] i x = refl
+values_set (c ∷ cs) zero x = refl
+values_set (c ∷ cs) (suc i) x = λ k. value_in c ∷ values_set cs i x k
+
+-- a place that is wiped has the value that was read
+pub values_kept : (visits : List Visit) (i x : ℕ) → get_elem? visits i ≡ some (Read x) → values_in (set visits i (Wiped x)) ≡ values_in visits
+values_kept [] i x e = refl
+values_kept (c ∷ cs) zero x e = λ k. value_in (sym (some-injective c (Read x) e) k) ∷ values_in cs
+values_kept (c ∷ cs) (suc i) x e = λ k. value_in c ∷ values_kept cs i x e k
 
 pub length_values : (visits : List Visit) → length (values_in visits) ≡ length visits
 length_values [] = refl
@@ -194,10 +158,6 @@ pub new_at : (n i : ℕ) → i < n → get_elem? (replicate n Unseen) i ≡ some
 new_at zero i l = absurd (omega arith)
 new_at (suc n) zero l = refl
 new_at (suc n) (suc i) l = new_at n i (omega arith)
-
--- a walk that began comes to a place
-pub next_unseen : (kind : WalkKind) (m m1 : Seated) (side given at : ℕ) → Walks kind m m1 side 0 at → m.0.hold ≡ walking kind side (replicate given Unseen) → at < given → get_elem? (visits_of m1.0.hold) at ≡ some Unseen
-next_unseen kind m m1 side given at c h l = c.others at (inr (le_refl at)) ∙ (ap (λ (z : List Visit). get_elem? z at) (visits_now kind m side (replicate given Unseen) h) ∙ new_at given at l)
 
 pub length_visits : (n : ℕ) → length (replicate n Unseen) ≡ n
 length_visits zero = refl

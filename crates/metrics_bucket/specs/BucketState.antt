@@ -31,9 +31,30 @@ other (suc side) = 0
 abbrev pub place_index : ℕ → ℕ → ℕ → ℕ
 place_index places side i = base places side + i
 
+-- how many blocks of 64 places a side has, the last one perhaps with fewer
+abbrev pub blocks_of : ℕ → ℕ
+blocks_of places = (places + 63) / 64
+
+abbrev pub side_marks : ℕ → ℕ → List ℕ → List ℕ
+side_marks places side marks = take places (drop (base places side) marks)
+
+-- so many marks from the i-th on as the bits of a word, the first one the lowest
+unfoldable pub bits : List ℕ → ℕ → ℕ → ℕ
+bits marks i zero = 0
+bits marks i (suc n) = slice_index marks i + 2 * bits marks (suc i) n
+
+-- so many words from the k-th on, each with the marks of a block
+abbrev pub mark_words : List ℕ → ℕ → ℕ → List ℕ
+mark_words marks k zero = []
+mark_words marks k (suc n) = bits marks (64 * k) 64 ∷ mark_words marks (suc k) n
+
+-- the marks of both sides, 64 to a word
+abbrev pub packed : ℕ → List ℕ → List ℕ
+packed places marks = mark_words (side_marks places 0 marks) 0 (blocks_of places) ++ mark_words (side_marks places 1 marks) 0 (blocks_of places)
+
 -- the words of the table: control, turn, values, marks
-abbrev pub words_of : BucketState → List ℕ
-words_of w = (2 * w.given + w.live) ∷ w.turn ∷ (w.values ++ w.marks)
+abbrev pub words_of : ℕ → BucketState → List ℕ
+words_of places w = (2 * w.given + w.live) ∷ w.turn ∷ (w.values ++ packed places w.marks)
 
 -- f of each view, added up
 abbrev pub total : (View → ℕ) → List View → ℕ

@@ -111,4 +111,4 @@ FitsKey true all h w = ArePlain h × AreLight w.views
 -- starts from one whole thread or, where many may enter, from as many of weight 1 as entered
 abbrev pub FollowsHistory : ℕ → Bool → State Turn View → Type 0
 FollowsHistory places many s =
-    (h : List Event) × (w : BucketState) × ((all : ℕ) × Runs places all (begins many places all) h w × FitsKey many all h w) × (words_of w ≡ s.words) × (w.views ≡ s.views) × (homes_of w ≡ s.homes)
+    (h : List Event) × (w : BucketState) × ((all : ℕ) × Runs places all (begins many places all) h w × FitsKey many all h w) × (words_of places w ≡ s.words) × (w.views ≡ s.views) × (homes_of w ≡ s.homes)

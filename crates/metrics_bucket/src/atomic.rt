@@ -11,7 +11,7 @@ use crate::pen::Words;
 use crate::sample::Sample;
 use crate::steps::LookAtControl;
 use crate::view::{Turn, View};
-use crate::visitor::Shown;
+use crate::visitor::{Nobody, Shown};
 use atomic_table::Seat;
 use metrics::Error;
 use metrics_cells::HistogramFn;
@@ -20,7 +20,7 @@ use std::sync::{Arc, Wait};
 
 /// A bucket that any thread may push into, read and clear. It has two sides, each with 64 places for each block.
 ///
-/// It uses no lock, and any number of calls may run at once. Each block takes some 2 KB of memory.
+/// It uses no lock, and any number of calls may run at once. Each block takes some 1 KB of memory.
 #[derive(Drop)]
 pub struct AtomicBucket<T: Sample> {
     bucket: RuledBucket<T>,
@@ -113,7 +113,7 @@ impl<T: Sample> AtomicBucket<T> {
         ensures err { IfErr result (λ e. e ≡ Error.Busy) }
     {
         let (_, mut seat) = self.enter();
-        self.bucket.claim_and_wipe(rt, &mut seat)
+        self.bucket.claim_and_clear(rt, &mut seat, &mut Nobody)
     }
 
     /// Takes all values, shows them to `f` in chunks of 64, the newest chunk first, and returns their number.

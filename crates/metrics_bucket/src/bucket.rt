@@ -4,7 +4,7 @@ ghost use Rattle.std.specs.Prelude.{false, IsTrue, IfOk, OnOk, IfErr, MatchResul
 ghost use Rattle.std.specs.Prelude.{◌-◌, ◌/◌, vec_capacity, MatchBool};
 ghost use Rattle.metrics_bucket.specs.Account.{first_account, with_ticket, looked_at, IsLookedAnew, IsPushed};
 ghost use Rattle.std.specs.Arc.{arc_value};
-ghost use Rattle.metrics_bucket.specs.BucketState.{place_index, first_view, holding_at, having_seen, pushing};
+ghost use Rattle.metrics_bucket.specs.BucketState.{blocks_of, place_index, first_view, holding_at, having_seen, pushing};
 ghost use Rattle.metrics_bucket.specs.Blocks.{Settled};
 ghost use Rattle.metrics_bucket.specs.declared.view.Hold.TheVariants.{Nothing, Ticket, Settling};
 ghost use Rattle.metrics_bucket.specs.Steps.{count_all, HasLooked, HasLookedAnew, HasPushed, IsControl, IsFullFor};
@@ -48,6 +48,7 @@ impl<T: Sample> Model for RuledBucket<T> {
     ghost use Rattle.std.specs.Prelude.{◌≡◌, ◌+◌, ◌*◌, ◌^◌, ◌<◌};
     ghost use Rattle.std.specs.Arc.{arc_value};
     ghost use Rattle.metrics_bucket.specs.Account.{Home, home_code};
+    ghost use Rattle.metrics_bucket.specs.BucketState.{blocks_of};
 
     ghost Value = { Home };
 
@@ -55,7 +56,7 @@ impl<T: Sample> Model for RuledBucket<T> {
 
     ghost view = { λ b. record { table = (arc_value b.table).shared.table_id; places = b.places } };
 
-    ghost invariant = { λ b. ((arc_value b.table).shared.table_id.words ≡ 2 + 4 * b.places)
+    ghost invariant = { λ b. ((arc_value b.table).shared.table_id.words ≡ 2 + 2 * b.places + 2 * blocks_of b.places)
         × ((arc_value b.table).shared.key.0 ≡ b.places) × (0 < b.places) × (b.places < 2 ^ 60) };
 }
 
@@ -101,12 +102,13 @@ impl<T: Sample> RuledBucket<T> {
         requires { (0 < places) × (places < 2 ^ 60) }
         ensures home { IfOk result (λ r. (r.0.places ≡ places) × (r.0.table ≡ (arc_value r.1).shared.table_id)) }
         ensures key { IfOk result (λ r. ((arc_value r.1).shared.key ≡ (places, many))
-            × ((arc_value r.1).shared.table_id.words ≡ 2 + 4 * places)) }
+            × ((arc_value r.1).shared.table_id.words ≡ 2 + 2 * places + 2 * blocks_of places)) }
         ensures seat { IfOk result (λ r. (r.2.table_id ≡ (arc_value r.1).shared.table_id)
             × (r.2.me ≡ (first_view many places, []))) }
         ensures err { IfErr result (λ e. e ≡ Error.Memory) }
     {
-        let Ok(words) = vec![in alloc; 0u64; 2 + 4 * places] else {
+        let blocks = (places + (BLOCK_SIZE - 1)) / BLOCK_SIZE;
+        let Ok(words) = vec![in alloc; 0u64; 2 + 2 * places + 2 * blocks] else {
             return Err(Error::Memory);
         };
         let mut slots = Vec::new(alloc);
@@ -138,7 +140,7 @@ impl<T: Sample> RuledBucket<T> {
         requires { (0 < places) × (places < 2 ^ 60) }
         ensures home { IfOk result (λ r. (r.0.places ≡ places) × (r.0.table ≡ (arc_value r.1).shared.table_id)) }
         ensures key { IfOk result (λ r. ((arc_value r.1).shared.key ≡ (places, true))
-            × ((arc_value r.1).shared.table_id.words ≡ 2 + 4 * places)) }
+            × ((arc_value r.1).shared.table_id.words ≡ 2 + 2 * places + 2 * blocks_of places)) }
         ensures err { IfErr result (λ e. e ≡ Error.Memory) }
     {
         let (bucket, table, _) = Self::of_key(alloc, places, true)?;
@@ -163,12 +165,27 @@ impl<T: Sample> RuledBucket<T> {
         })
     }
 
-    // Returns the index of a side's place among the values, and among the marks.
+    // Returns the index of a side's place among the values.
     pub(crate) fn place_index(&self, side: usize, at: usize) -> usize
         requires { (side < 2) × (at < self.now.places) }
         ensures { (result ≡ place_index self.now.places side at) × (result < self.now.places + self.now.places) }
     {
         if side == 0 { at } else { self.places + at }
+    }
+
+    // Returns the word with the marks of a side's block, one bit for each place.
+    pub(crate) fn marks_word(&self, side: usize, block: usize) -> usize
+        requires { (side < 2) × (64 * block < self.now.places) }
+        ensures { (result ≡ 2 + (self.now.places + self.now.places) + place_index (blocks_of self.now.places) side block)
+            × (result < self.now.table.words) }
+    {
+        let blocks = (self.places + (BLOCK_SIZE - 1)) / BLOCK_SIZE;
+        let first = 2 + 2 * self.places;
+        if side == 0 {
+            first + block
+        } else {
+            first + blocks + block
+        }
     }
 
     // Reads the control word without a pen.
@@ -259,7 +276,7 @@ impl<T: Sample> RuledBucket<T> {
         Ok(((found % 2) as usize, given))
     }
 
-    // Stores the value at a ticket's place.
+    // Stores the value at a ticket's place, and marks the place.
     fn fill(&self, seat: &mut Seat<Turn, View>, side: usize, at: usize, value: T)
         requires home { (seat.old.table_id ≡ self.now.table) × (seat.old.me.0.places ≡ self.now.places)
             × (0 < seat.old.me.0.weight) }
@@ -271,8 +288,9 @@ impl<T: Sample> RuledBucket<T> {
         self.table
             .shared
             .store::<WriteValue>(seat, 2 + place_index, value.to_word());
-        let mark = 2 + 2 * self.places + place_index;
-        self.table.shared.store::<FinishPush>(seat, mark, 1);
+        let marks = self.marks_word(side, at / BLOCK_SIZE);
+        let mark = 1u64 << (at % BLOCK_SIZE);
+        self.table.shared.fetch_add::<FinishPush>(seat, marks, mark);
     }
 
     /// Stores the value at the ticket's place.

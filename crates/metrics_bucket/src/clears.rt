@@ -16,7 +16,7 @@ use crate::pen::Pen;
 use crate::sample::Sample;
 use crate::steps::{ClaimTurn, LookToClear, TakeSide};
 use crate::view::{Turn, View};
-use crate::visitor::{Shown, Visitor};
+use crate::visitor::{Nobody, Shown, Visitor};
 use crate::walker::Clearer;
 use atomic_table::Seat;
 use metrics::Error;
@@ -40,30 +40,6 @@ impl<T: Sample> RuledBucket<T> {
         let live = shared.load::<LookToClear>(seat, 0) % 2;
         let control = shared.swap::<TakeSide>(seat, 0, 1 - live);
         Ok((live as usize, (control / 2) as usize))
-    }
-
-    // Takes all values, and shows them to nobody.
-    pub(crate) fn claim_and_wipe<R: Wait>(
-        &self,
-        rt: &R,
-        seat: &mut Seat<Turn, View>,
-    ) -> Result<usize, Error>
-        requires home { (seat.old.table_id ≡ self.now.table) × (seat.old.me.0.places ≡ self.now.places)
-            × (0 < seat.old.me.0.weight) }
-        requires hold { (seat.old.me.0.hold ≡ Nothing) × (seat.old.me.1 ≡ []) }
-        ensures table { seat.new.table_id ≡ seat.old.table_id }
-        ensures ok { IfOk result (λ n. (w : Walk) × (k : ℕ) × (length w.values ≡ n)
-            × (seat.new.me ≡ (has_taken seat.old.me.0 k w, [])) × Covers seat.old.me.0.pushed w
-            × (seat.old.me.0.weight ≡ 1024 → w.epoch ≡ length seat.old.me.0.taken)) }
-        ensures count { IfOk result (λ n. n ≤ self.now.places) }
-        ensures whole { seat.old.me.0.weight ≡ 1024
-            → OnOk result ((h : ℕ → ℕ) → weigh_pushes h seat.new.me.0.pushed ≡ weigh_walks h seat.new.me.0.taken) }
-        ensures err { IfErr result (λ e. WasBusy seat.old.me seat.new.me × (e ≡ Error.Busy)
-            × (seat.old.me.0.weight ≢ 1024)) }
-    {
-        let taken = self.claim_side(seat)?;
-        self.pass_and_leave::<R, Clearer>(rt, seat, taken.0, taken.1);
-        Ok(taken.1)
     }
 
     // Takes all values, and shows them to the visitor.
@@ -146,6 +122,6 @@ impl<T: Sample> RuledBucket<T> {
         ensures count { IfOk result (λ n. n ≤ self.now.places) }
         ensures err { IfErr result (λ e. IsBusy pen.old pen.new × (e ≡ Error.Busy) × (pen.old.weight ≢ 1024)) }
     {
-        self.claim_and_wipe(rt, &mut pen.seat)
+        self.claim_and_clear(rt, &mut pen.seat, &mut Nobody)
     }
 }

@@ -1,8 +1,8 @@
 //! What each step on the table says.
 ghost use Rattle.metrics_bucket.specs.Steps.{control_looked, ticket_drawn, value_written, push_finished, live_side_looked};
 ghost use Rattle.metrics_bucket.specs.Steps.{weight_looked, settled_value_looked};
-ghost use Rattle.metrics_bucket.specs.WalkSteps.{turn_claimed, reading_looked, clear_looked, side_taken, mark_looked, value_read};
-ghost use Rattle.metrics_bucket.specs.WalkSteps.{mark_wiped, turn_left, turn_given_back};
+ghost use Rattle.metrics_bucket.specs.WalkSteps.{turn_claimed, reading_looked, clear_looked, side_taken, marks_looked};
+ghost use Rattle.metrics_bucket.specs.WalkSteps.{value_read, marks_wiped, turn_left, turn_given_back};
 ghost use Rattle.metrics_bucket.specs.BucketState.{new_view, left_part, right_part, both_parts};
 
 use crate::view::{Turn, View};
@@ -82,10 +82,10 @@ impl Play<Turn, View> for TakeSide {
     ghost then = { side_taken };
 }
 
-pub(crate) struct LookAtMark;
+pub(crate) struct LookAtMarks;
 
-impl Play<Turn, View> for LookAtMark {
-    ghost then = { mark_looked };
+impl Play<Turn, View> for LookAtMarks {
+    ghost then = { marks_looked };
 }
 
 pub(crate) struct ReadValue;
@@ -94,10 +94,10 @@ impl Play<Turn, View> for ReadValue {
     ghost then = { value_read };
 }
 
-pub(crate) struct WipeMark;
+pub(crate) struct WipeMarks;
 
-impl Play<Turn, View> for WipeMark {
-    ghost then = { mark_wiped };
+impl Play<Turn, View> for WipeMarks {
+    ghost then = { marks_wiped };
 }
 
 pub(crate) struct LeaveTurn;

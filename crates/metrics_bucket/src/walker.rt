@@ -1,14 +1,10 @@
-//! What a walk does at a place whose value it read.
-ghost use Rattle.std.specs.Prelude.{◌≡◌, ℕ, ◌<◌};
-ghost use mathlib.Core.Option.{some};
-ghost use lib.ListN.{get_elem?};
-ghost use Rattle.metrics_bucket.specs.BucketState.{holding, put_visit, side_of, visits_of};
-ghost use Rattle.metrics_bucket.specs.WalkSteps.{IsMarkOf};
-ghost use Rattle.metrics_bucket.specs.WalkedPlaces.{WalkKind, walking, visited};
-ghost use Rattle.metrics_bucket.specs.declared.view.Visit.TheVariants.{Read};
+//! What a walk does at a block whose values it read.
+ghost use Rattle.std.specs.Prelude.{◌≡◌, ◌*◌, ◌<◌};
+ghost use Rattle.metrics_bucket.specs.BucketState.{values_in, visits_of};
+ghost use Rattle.metrics_bucket.specs.WalkedPlaces.{AreRead, IsBlock, WalkKind, Walks};
 
 use crate::pen::SharedWords;
-use crate::steps::WipeMark;
+use crate::steps::WipeMarks;
 use crate::view::{Turn, View};
 use atomic_table::Seat;
 
@@ -16,19 +12,25 @@ use atomic_table::Seat;
 pub(crate) trait Walker {
     ghost kind: { WalkKind };
 
-    // Called for a place whose value was read. Its mark is this word.
-    fn leave_place(shared: &SharedWords, seat: &mut Seat<Turn, View>, mark: usize, at: usize)
+    // Called for a block whose values were read. Its marks are in this word.
+    fn leave_block(
+        shared: &SharedWords,
+        seat: &mut Seat<Turn, View>,
+        marks: usize,
+        side: usize,
+        block: usize,
+        end: usize,
+    )
         requires home { (seat.old.table_id ≡ shared.now.table_id) × (0 < seat.old.me.0.weight) }
-        requires word { (mark < shared.now.table_id.words) × IsMarkOf seat.old.me.0 mark at }
-        requires hold { seat.old.me.0.hold
-            ≡ walking kind (side_of seat.old.me.0.hold) (visits_of seat.old.me.0.hold) }
-        requires read { (x : ℕ) × (get_elem? (visits_of seat.old.me.0.hold) at ≡ some (Read x)) }
+        requires word { marks < shared.now.table_id.words }
+        requires block { IsBlock kind seat.old.me marks side block end }
+        requires read { AreRead (64 * block) end (visits_of seat.old.me.0.hold) }
         ensures table { seat.new.table_id ≡ seat.old.table_id }
-        ensures left { (x : ℕ) → get_elem? (visits_of seat.old.me.0.hold) at ≡ some (Read x)
-            → seat.new.me ≡ (holding seat.old.me.0 (put_visit seat.old.me.0.hold at (visited kind x)), seat.old.me.1) };
+        ensures left { Walks kind seat.old.me seat.new.me side (64 * block) end }
+        ensures same { values_in (visits_of seat.new.me.0.hold) ≡ values_in (visits_of seat.old.me.0.hold) };
 }
 
-// It leaves the place as it was.
+// It leaves the block as it was.
 pub(crate) struct Reader;
 
 impl Walker for Reader {
@@ -37,10 +39,17 @@ impl Walker for Reader {
     ghost kind = { reads };
 
     #[inline(always)]
-    fn leave_place(_shared: &SharedWords, _seat: &mut Seat<Turn, View>, _mark: usize, _at: usize) {}
+    fn leave_block(
+        _shared: &SharedWords,
+        _seat: &mut Seat<Turn, View>,
+        _marks: usize,
+        _side: usize,
+        _block: usize,
+        _end: usize,
+    ) {}
 }
 
-// It wipes the place's mark.
+// It wipes the block's marks.
 pub(crate) struct Clearer;
 
 impl Walker for Clearer {
@@ -49,7 +58,14 @@ impl Walker for Clearer {
     ghost kind = { clears };
 
     #[inline(always)]
-    fn leave_place(shared: &SharedWords, seat: &mut Seat<Turn, View>, mark: usize, _at: usize) {
-        shared.store::<WipeMark>(seat, mark, 0);
+    fn leave_block(
+        shared: &SharedWords,
+        seat: &mut Seat<Turn, View>,
+        marks: usize,
+        _side: usize,
+        _block: usize,
+        _end: usize,
+    ) {
+        shared.store::<WipeMarks>(seat, marks, 0);
     }
 }

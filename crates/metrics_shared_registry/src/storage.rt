@@ -26,7 +26,7 @@ pub struct AtomicStorage {
 }
 
 impl AtomicStorage {
-    /// Makes a storage whose cells allocate from `alloc`. A histogram takes some 33 KB.
+    /// Makes a storage whose cells allocate from `alloc`. A histogram takes some 17 KB.
     pub fn new(alloc: Global) -> AtomicStorage
         ensures { result.blocks ≡ 16 }
     {
@@ -38,7 +38,7 @@ impl AtomicStorage {
 
     /// Makes a storage whose histograms have this many blocks of 64 samples, 1 to 1,024.
     ///
-    /// A histogram takes some 1 KB, and 2 KB for each block.
+    /// A histogram takes some 600 bytes, and 1 KB for each block.
     pub fn with_blocks(alloc: Global, blocks: usize) -> Result<AtomicStorage, Error>
         ensures { MatchResult result (λ s. (s.blocks ≡ blocks) × (0 < blocks) × (blocks ≤ 1024))
             (λ e. (e ≡ Error.BadBlocks) × ((blocks ≡ 0) ⊎ (1024 < blocks))) }

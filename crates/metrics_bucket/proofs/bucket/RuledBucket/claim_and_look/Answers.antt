@@ -2,7 +2,7 @@ use Rattle.std.proofs.Common.{rules, ◌≡◌, ℕ, List, ◌+◌, ◌*◌, ◌
 use Rattle.metrics_bucket.specs.declared.view.Push.{Push}
 use Rattle.metrics_bucket.specs.declared.view.Hold.TheVariants.{Reading}
 use Rattle.metrics_bucket.specs.declared.view.Visit.TheVariants.{Unseen}
-use Rattle.metrics_bucket.specs.BucketState.{holding_at}
+use Rattle.metrics_bucket.specs.BucketState.{blocks_of, holding_at}
 use Rattle.metrics_bucket.specs.Places.{Reaches}
 use Rattle.metrics_bucket.specs.Steps.{Seated}
 use Rattle.metrics_bucket.proofs.AllowedClaims.{claims_turn, surveys_side}
@@ -13,14 +13,14 @@ Weighs m = 0 < m.0.weight
 
 pub compare_exchange-requires : goal.compare_exchange-requires
 compare_exchange-requires g c =
-    let words : c.deref.result.now.shared.table_id.words ≡ 2 + 4 * c.self.inside.places = search rules in
+    let words : c.deref.result.now.shared.table_id.words ≡ 2 + 2 * c.self.inside.places + 2 * blocks_of c.self.inside.places = search rules in
     (search rules, omega arith, claims_turn _ _ _ _ _ c.requires.home.2 c.requires.hold.0 c.requires.hold.1)
 
 pub load-requires : goal.load-requires
 load-requires g c =
     let zero_found : c.compare_exchange.result ≡ 0 = search rules in
     let e1 = c.compare_exchange.ensures.2.0 zero_found in
-    let words : c.deref.result.now.shared.table_id.words ≡ 2 + 4 * c.self.inside.places = search rules in
+    let words : c.deref.result.now.shared.table_id.words ≡ 2 + 2 * c.self.inside.places + 2 * blocks_of c.self.inside.places = search rules in
     (search rules, omega arith, surveys_side _ _ _ _ _ (subst Weighs (sym e1.1) c.requires.home.2) (ap (λ (m : Seated). m.0.hold) e1.1))
 
 pub returns-clause-ok : goal.returns-clause-ok

@@ -1,5 +1,5 @@
 use Rattle.std.proofs.Common.{rules, ◌≡◌, ℕ, List, ◌+◌, ◌-◌, ◌*◌, ◌/◌, ◌%◌, ◌<◌, ◌≤◌, length, replicate, sym, ap, ◌∙◌, subst, arith}
-use Rattle.metrics_bucket.specs.BucketState.{holding_at}
+use Rattle.metrics_bucket.specs.BucketState.{blocks_of, holding_at}
 use Rattle.metrics_bucket.specs.Steps.{Seated}
 use Rattle.metrics_bucket.specs.Places.{Reaches}
 use Rattle.metrics_bucket.specs.declared.view.Push.{Push}
@@ -14,14 +14,14 @@ Weighs m = 0 < m.0.weight
 
 pub compare_exchange-requires : goal.compare_exchange-requires
 compare_exchange-requires g c =
-    let words : c.deref.result.now.shared.table_id.words ≡ 2 + 4 * c.self.inside.places = search rules in
+    let words : c.deref.result.now.shared.table_id.words ≡ 2 + 2 * c.self.inside.places + 2 * blocks_of c.self.inside.places = search rules in
     (search rules, omega arith, claims_turn _ _ _ _ _ c.requires.home.2 c.requires.hold.0 c.requires.hold.1)
 
 pub load-live-requires : goal.load-live-requires
 load-live-requires g c =
     let zero_found : c.compare_exchange.result ≡ 0 = search rules in
     let e1 = c.compare_exchange.ensures.2.0 zero_found in
-    let words : c.deref.result.now.shared.table_id.words ≡ 2 + 4 * c.self.inside.places = search rules in
+    let words : c.deref.result.now.shared.table_id.words ≡ 2 + 2 * c.self.inside.places + 2 * blocks_of c.self.inside.places = search rules in
     (search rules, omega arith, aims_side _ _ _ _ _ (subst Weighs (sym e1.1) c.requires.home.2) (ap (λ (m : Seated). m.0.hold) e1.1))
 
 pub swap-control-requires : goal.swap-control-requires
@@ -29,7 +29,7 @@ swap-control-requires g c =
     let zero_found : c.compare_exchange.result ≡ 0 = search rules in
     let e1 = (c.compare_exchange.ensures.2.0 zero_found).1 in
     let e2 = c.load-live.ensures.2 in
-    let words : c.deref.result.now.shared.table_id.words ≡ 2 + 4 * c.self.inside.places = search rules in
+    let words : c.deref.result.now.shared.table_id.words ≡ 2 + 2 * c.self.inside.places + 2 * blocks_of c.self.inside.places = search rules in
     let s : ℕ = c.load-live.result % 2 in
     (search rules, omega arith, takes_all _ _ _ _ _ s (1 - s) (subst Weighs (sym e2) (subst Weighs (sym e1) c.requires.home.2)) (ap (λ (m : Seated). m.0.hold) e2) (one_minus s (omega arith)))
 

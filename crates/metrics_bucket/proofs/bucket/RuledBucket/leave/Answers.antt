@@ -1,5 +1,5 @@
 use Rattle.std.proofs.Common.{rules, ◌≡◌, ℕ, List, [], ◌∷◌, refl, ◌+◌, ◌*◌, ◌<◌, length, sym, ap, ◌∙◌, subst, arith}
-use Rattle.metrics_bucket.specs.BucketState.{walk, side_of, visits_of, values_in}
+use Rattle.metrics_bucket.specs.BucketState.{blocks_of, walk, side_of, visits_of, values_in}
 use Rattle.metrics_bucket.specs.Steps.{Seated}
 use Rattle.metrics_bucket.specs.Facts.{weigh, weigh_pushes, weigh_walks}
 use Rattle.metrics_bucket.specs.History.{CanLeave, turn_at}
@@ -20,7 +20,7 @@ Weighs m = 0 < m.0.weight
 pub store-requires : goal.store-requires
 store-requires g c =
     let counted = c.count_walk.ensures.1 in
-    let words : c.deref.result.now.shared.table_id.words ≡ 2 + 4 * c.self.inside.places = search rules in
+    let words : c.deref.result.now.shared.table_id.words ≡ 2 + 2 * c.self.inside.places + 2 * blocks_of c.self.inside.places = search rules in
     let some_places = c.self.invariant.2 in
     (search rules, omega arith, leaves_turn _ _ _ _ _ (subst Weighs (sym counted) c.requires.home.1) (subst (λ (m : Seated). CanLeave m.0.hold) (sym counted) c.requires.hold.1) (subst IsCounted (sym counted) refl))
 

@@ -1,6 +1,6 @@
 use Rattle.std.proofs.Common.{rules, ◌≡◌, ℕ, ◌+◌, ◌*◌, ◌<◌, length, sym, ap, ◌∙◌, subst, arith}
 use Rattle.metrics_bucket.specs.declared.view.Hold.TheVariants.{Settling}
-use Rattle.metrics_bucket.specs.BucketState.{place_index}
+use Rattle.metrics_bucket.specs.BucketState.{place_index, blocks_of}
 use Rattle.metrics_bucket.specs.Steps.{Seated, values_known}
 use Rattle.metrics_bucket.proofs.Allowed.{recalls}
 use Rattle.metrics_bucket.proofs.Blocks.{chunk_step}
@@ -12,7 +12,7 @@ load-bits-requires g c =
     let i = c.self.invariant in
     let below = c.place_index-word.ensures.1 in
     let p : c.args.self.now.places ≡ c.self.inside.places = search rules in
-    let words : c.deref.result.now.shared.table_id.words ≡ 2 + 4 * c.self.inside.places = search rules in
+    let words : c.deref.result.now.shared.table_id.words ≡ 2 + 2 * c.self.inside.places + 2 * blocks_of c.self.inside.places = search rules in
     (search rules, omega arith, recalls _ _ _ _ _ _ (subst (λ (m : Seated). 0 < m.0.weight) (sym same) c.requires.knows.0))
 
 pub loop-at-preserved : goal.loop-at-preserved
