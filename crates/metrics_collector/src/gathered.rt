@@ -61,7 +61,7 @@ impl ReadSeries for GatheredSeries {
             Value::Samples(histogram) => ReadingRef::Samples(histogram),
         };
         SeriesReading {
-            key: self.key.get(),
+            key: &self.key,
             reading,
         }
     }

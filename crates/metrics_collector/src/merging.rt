@@ -58,7 +58,7 @@ impl<T: Drop> From<AllocFailed<T>> for AbsorbError {
 pub(crate) fn are_same(row: &GatheredSeries, other: &GatheredSeries) -> bool
     ensures { result ≡ are_same row.now other.now }
 {
-    row.kind() == other.kind() && row.key.get() == other.key.get()
+    row.kind() == other.kind() && *row.key == *other.key
 }
 
 /// Returns the place of the first row of a row's series, or else the number of rows.

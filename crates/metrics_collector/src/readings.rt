@@ -367,7 +367,7 @@ impl Readings {
     /// Forgets series that were gathered for a text that nobody saw, so that the next reading finds them new.
     fn forget_all(&mut self, gathered: &Gathered) {
         for one in &gathered.series {
-            self.show_again(one.kind(), one.key.get());
+            self.show_again(one.kind(), &one.key);
         }
     }
 

@@ -37,7 +37,7 @@ pub(crate) fn with_repeated(
     for at in 0..rows.len() {
         let row = &rows[at];
         if has_series(&rows[..at], row) {
-            all = write_repeated(alloc, all, row.kind(), row.key.get())?;
+            all = write_repeated(alloc, all, row.kind(), &row.key)?;
         }
     }
     Ok(all)

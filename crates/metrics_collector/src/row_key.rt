@@ -8,16 +8,17 @@ use std::alloc::AllocError;
 use std::marker::Model;
 use std::ops::Deref;
 
-/// The key of a row, which knows whether a text shows its labels as they are: that is found once, when it is made. Contracts see
-/// it as the key.
+/// The key of a row. It knows whether a text shows its labels as they are, once it has looked at them. Contracts see it as the
+/// key.
 #[derive(Drop)]
 pub struct RowKey {
     key: Key,
-    is_ready: bool,
+    /// Nothing until it has looked.
+    is_ready: Option<bool>,
 }
 
 impl Model for RowKey {
-    ghost use Rattle.std.specs.Prelude.{◌≡◌, true};
+    ghost use Rattle.std.specs.Prelude.{◌≡◌, true, Some};
     ghost use Rattle.metrics_names.specs.Names.{KeyParts};
     ghost use Rattle.metrics_exposition.specs.Labels.{AreReady};
 
@@ -25,7 +26,7 @@ impl Model for RowKey {
 
     ghost view = { λ k. k.key };
 
-    ghost invariant = { λ k. k.is_ready ≡ true → AreReady k.key.labels };
+    ghost invariant = { λ k. k.is_ready ≡ Some true → AreReady k.key.labels };
 }
 
 impl RowKey {
@@ -33,8 +34,10 @@ impl RowKey {
     pub fn new(key: Key) -> RowKey
         ensures { result ≡ key }
     {
-        let is_ready = are_ready(key.labels());
-        RowKey { key, is_ready }
+        RowKey {
+            key,
+            is_ready: None,
+        }
     }
 
     /// Returns a copy. Fails when out of memory.
@@ -55,18 +58,23 @@ impl RowKey {
         key
     }
 
-    /// Returns the key.
-    pub fn get(&self) -> &Key
-        ensures { result.now ≡ self.now }
+    /// Looks at the labels, unless it has.
+    pub(crate) fn look(&mut self)
+        ensures { self.new ≡ self.old }
     {
-        &self.key
+        if self.is_ready.is_none() {
+            self.is_ready = Some(are_ready(self.key.labels()));
+        }
     }
 
-    /// Returns whether a text shows its labels as they are.
+    /// Returns whether it has seen that a text shows its labels as they are.
     pub(crate) fn is_ready(&self) -> bool
         ensures { IsTrue result → AreReady self.now.labels }
     {
-        self.is_ready
+        match self.is_ready {
+            Some(is_ready) => is_ready,
+            None => false,
+        }
     }
 }
 

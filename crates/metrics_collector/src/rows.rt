@@ -27,11 +27,13 @@ impl Model for Rows {
     ghost invariant = { λ a. a.count ≤ length a.series.items };
 }
 
-/// Gives a row this key and this value. The key is copied only if the row has another one.
+/// Gives a row this key and this value. The key is copied only if the row has another one, and its labels are looked at only in
+/// a row that stays.
 fn refill(row: &mut GatheredSeries, key: &Key, value: Value) -> Result<(), AllocError>
     ensures { OnOk result (row.new ≡ record { key = key.now; value = value }) }
 {
-    if row.key.get() == key {
+    if *row.key == *key {
+        row.key.look();
         row.value = value;
         return Ok(());
     }

@@ -172,8 +172,8 @@ pub fn are_fit(kind: MetricKind, labels: &[Label]) -> bool
     !repeats(labels) && !has_reserved(kind, labels)
 }
 
-/// Returns whether a series of any kind is shown with these very labels: they are in order, each is allowed and has a value, no two
-/// have one name, and Prometheus keeps none for itself.
+/// Returns whether a series of any kind is shown with these very labels: they are in order, each is allowed and has a value, no
+/// two have one name, and Prometheus keeps none for itself.
 pub fn are_ready(labels: &[Label]) -> bool
     ensures { IsTrue result → AreReady labels.now }
 {

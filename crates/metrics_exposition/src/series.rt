@@ -17,8 +17,8 @@ pub trait ReadSeries {
     fn reading(&self) -> SeriesReading<'_>
         ensures { keyed_reading result ≡ keyed self.now };
 
-    /// Returns whether its labels are ready, as `are_ready` says. It may keep that with its key; a series that returns false has its
-    /// labels looked at for each text.
+    /// Returns whether its labels are ready, as `are_ready` says. It may keep that with its key; a series that returns false has
+    /// its labels looked at for each text.
     fn has_ready_labels(&self) -> bool
         ensures { IsTrue result → AreReady (keyed self.now).0.key.labels };
 }

@@ -17,7 +17,7 @@ loop-at-preserved c =
     (elim c.if-has_series.branch [
       | then-has_series+in_ok-all w ↦
           ap (λ (t : CountedText). string_bytes t.text) w.all-is ∙ w.in_ok-all.ensures.ok
-          ∙ ap (λ l. text ++ l) ((λ j. repeated_line (series_at (w.kind.ensures j) (w.get.ensures j))) ∙ sym (line-when (take i rows) row (sym c.has_series.ensures ∙ w.if-has_series.true)))
+          ∙ ap (λ l. text ++ l) ((λ j. repeated_line (series_at (w.kind.ensures j) (w.deref.ensures j))) ∙ sym (line-when (take i rows) row (sym c.has_series.ensures ∙ w.if-has_series.true)))
       | else-has_series w ↦
           ap (λ (t : CountedText). string_bytes t.text) w.all-is ∙ sym (append-nil text) ∙ ap (λ l. text ++ l) (sym (no-line (take i rows) row (sym c.has_series.ensures ∙ w.if-has_series.false)))
     ])

@@ -8,6 +8,6 @@ use Rattle.metrics_collector.proofs.rows.refill.Goals as goal
 pub returns-then-eq : goal.returns-then-eq
 returns-then-eq c =
     let same : c.args.row.now.key ≡ c.args.key.now =
-    (key_eq-Decides c.args.row.now.key c.args.key.now).0 (ap (λ (k : KeyParts). key_eq k c.args.key.now) (sym c.get.ensures) ∙ sym c.eq.ensures ∙ c.if-eq.true) in
+    (key_eq-Decides c.args.row.now.key c.args.key.now).0 (ap (λ (k : KeyParts). key_eq k c.args.key.now) (sym c.deref.ensures) ∙ sym c.eq.ensures ∙ c.if-eq.true) in
     let row : KeyParts → GatheredSeries = λ k. record { key = k; value = c.args.value } in
-    ap row same
+    ap row (c.look.ensures ∙ same)
