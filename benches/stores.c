@@ -1,7 +1,7 @@
-// The stores that bound a clear of the lock-free bucket, without the clear: a bucket has a mark and a value for each place, and a
-// clear resets each mark by a sequentially consistent store, as the kit's `atomic_table` makes it. `stores` times these alone,
-// `stores_and_loads` with the loads of marks and values that a clear makes too. The sizes, the rounds and what is printed are those
-// of `bench_shared`'s rows of clears: `name ns_per_op`, the least of nine rounds, and to standard error the median.
+// The steps of a clear of the lock-free bucket, without the clear. `stores` makes a sequentially consistent store for each value,
+// which bounds a clear that resets a mark of each. `blocks` makes what a clear makes that has 64 marks in a word: for each block
+// a load of the word, a load of each value and one such store. The sizes, the rounds and what is printed are those of
+// `bench_shared`'s rows of clears: `name ns_per_op`, the least of nine rounds, and to standard error the median.
 #include <stdatomic.h>
 #include <stdint.h>
 #include <stdio.h>
@@ -10,33 +10,41 @@
 
 enum { ROUNDS = 9, VALUES = 1 << 18, TIMES = 4 };
 
-// A place: whether it has a value, and the value.
-struct place {
-    atomic_uint_fast64_t mark;
-    atomic_uint_fast64_t value;
+enum { BLOCK = 64 };
+
+// A block of values, and a mark for each of them.
+struct block {
+    atomic_uint_fast64_t marks;
+    atomic_uint_fast64_t values[BLOCK];
 };
 
-static void fill(struct place *places, size_t count) {
+static void fill(struct block *blocks, size_t count) {
     for (size_t i = 0; i < count; i++) {
-        atomic_store_explicit(&places[i].value, i, memory_order_relaxed);
-        atomic_store_explicit(&places[i].mark, 1, memory_order_relaxed);
+        for (size_t k = 0; k < BLOCK; k++) {
+            atomic_store_explicit(&blocks[i].values[k], k, memory_order_relaxed);
+        }
+        atomic_store_explicit(&blocks[i].marks, UINT64_MAX, memory_order_relaxed);
     }
 }
 
-static uint64_t stores(struct place *places, size_t count) {
+static uint64_t stores(struct block *blocks, size_t count) {
     for (size_t i = 0; i < count; i++) {
-        atomic_store(&places[i].mark, 0);
+        for (size_t k = 0; k < BLOCK; k++) {
+            atomic_store(&blocks[i].values[k], 0);
+        }
     }
     return count;
 }
 
-static uint64_t stores_and_loads(struct place *places, size_t count) {
+static uint64_t steps(struct block *blocks, size_t count) {
     uint64_t sum = 0;
     for (size_t i = 0; i < count; i++) {
-        if (atomic_load(&places[i].mark) != 0) {
-            sum += atomic_load(&places[i].value);
+        if (atomic_load(&blocks[i].marks) == UINT64_MAX) {
+            for (size_t k = 0; k < BLOCK; k++) {
+                sum += atomic_load(&blocks[i].values[k]);
+            }
         }
-        atomic_store(&places[i].mark, 0);
+        atomic_store(&blocks[i].marks, 0);
     }
     return sum;
 }
@@ -52,20 +60,20 @@ static int order(const void *one, const void *other) {
     return (a > b) - (a < b);
 }
 
-// A way to clear so many places, and how many values the full buckets of that size have together.
-typedef uint64_t clearing(struct place *, size_t);
+// A way to clear so many blocks, and how many values the full buckets of that size have together.
+typedef uint64_t clearing(struct block *, size_t);
 static const struct {
     size_t count, values;
 } SIZES[] = {{64, 1 << 15}, {1024, VALUES}, {65536, VALUES}};
 
 // The nanoseconds for a value: full buckets are cleared one after another, and filling them isn't timed.
-static double timed(clearing *clear, struct place *places, size_t count, size_t values, uint64_t *seen) {
+static double timed(clearing *clear, struct block *blocks, size_t count, size_t values, uint64_t *seen) {
     double spent = 0;
     for (int time = 0; time < TIMES; time++) {
-        fill(places, values);
+        fill(blocks, values / BLOCK);
         double start = nanos();
-        for (size_t at = 0; at < values; at += count) {
-            *seen += clear(places + at, count);
+        for (size_t at = 0; at < values / BLOCK; at += count / BLOCK) {
+            *seen += clear(blocks + at, count / BLOCK);
         }
         spent += nanos() - start;
     }
@@ -73,12 +81,12 @@ static double timed(clearing *clear, struct place *places, size_t count, size_t 
 }
 
 // Nine rounds after a warm-up.
-static void report(const char *name, clearing *clear, struct place *places, size_t count, size_t values) {
+static void report(const char *name, clearing *clear, struct block *blocks, size_t count, size_t values) {
     double times[ROUNDS];
     uint64_t seen = 0;
-    timed(clear, places, count, values, &seen);
+    timed(clear, blocks, count, values, &seen);
     for (int round = 0; round < ROUNDS; round++) {
-        times[round] = timed(clear, places, count, values, &seen);
+        times[round] = timed(clear, blocks, count, values, &seen);
     }
     qsort(times, ROUNDS, sizeof times[0], order);
     printf("c_%s_%zu_per_value %.2f\n", name, count, times[0]);
@@ -86,14 +94,14 @@ static void report(const char *name, clearing *clear, struct place *places, size
 }
 
 int main(void) {
-    struct place *places = aligned_alloc(64, VALUES * sizeof *places);
-    if (places == NULL) {
+    struct block *blocks = calloc(VALUES / BLOCK, sizeof *blocks);
+    if (blocks == NULL) {
         return 1;
     }
     for (size_t i = 0; i < sizeof SIZES / sizeof SIZES[0]; i++) {
-        report("stores", stores, places, SIZES[i].count, SIZES[i].values);
-        report("stores_and_loads", stores_and_loads, places, SIZES[i].count, SIZES[i].values);
+        report("stores", stores, blocks, SIZES[i].count, SIZES[i].values);
+        report("blocks", steps, blocks, SIZES[i].count, SIZES[i].values);
     }
-    free(places);
+    free(blocks);
     return 0;
 }
