@@ -50,10 +50,10 @@ fn is_unread(word: u64) -> bool
 
 /// A value that many threads may read at once, or one may change.
 ///
-/// A reader changes the slot's word once as it comes, and once as it leaves. It comes only at `PRESENT`, which it looks for
-/// first: a compare-exchange that fails takes the word from the other readers. A writer that finds readers marks the word, so
-/// that no more come, and waits until the last has left. Then it takes the value out, and leaves the word marked until it puts
-/// the value back.
+/// A reader changes the slot's word once as it comes, and once as it leaves. It comes only at `PRESENT`, and tries first as if
+/// nobody else read: a look before would fetch the word's cache line once to read it and once more to change it. A writer that
+/// finds readers marks the word, so that no more come, and waits until the last has left. Then it takes the value out, and
+/// leaves the word marked until it puts the value back.
 ///
 /// No contract says what the value is, since other threads may change it at any time.
 #[derive(Drop)]
@@ -100,7 +100,7 @@ impl<T: Drop> Lock<T> {
     /// Reads the value, unless a writer has it or waits for it.
     #[inline(always)]
     fn come(&self) -> Option<ReadGuard<'_, T>> {
-        let mut seen = self.slot.load();
+        let mut seen = PRESENT;
         // Each further turn follows a step of another thread.
         for _ in 0..u64::MAX {
             if state_of(seen) != PRESENT || reader_count(seen) == MOST_READERS {
