@@ -3,6 +3,7 @@ pub mod Names
 pub mod Numbers
 pub mod Naming
 pub mod Labels
+pub mod LabelOrder
 pub mod Shown
 pub mod Samples
 pub mod Heads

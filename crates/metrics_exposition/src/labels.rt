@@ -9,8 +9,8 @@ ghost use Rattle.metrics_exposition.specs.Labels.{placed, added, shown_labels, i
 ghost use Rattle.metrics_exposition.specs.Labels.{first_value, repeats, is_last, is_reserved, reserved_of, are_fit, AreReady};
 
 use crate::names::{is_name, label_name};
-use crate::shown::ShownItems;
-use metrics::{Error, Label, MetricKind};
+use crate::shown::ShownLabels;
+use metrics::{Error, Key, Label, MetricKind};
 use metrics_names::{are_sorted, is_before};
 use std::alloc::Global;
 
@@ -96,18 +96,19 @@ fn are_whole(labels: &[Label]) -> bool
     true
 }
 
-/// Returns the labels that Prometheus is shown, in order of their names: those with an empty value are dropped. Labels that are
-/// shown unchanged allocate nothing.
+/// Returns a key's labels as Prometheus is shown them, in order of their names: those with an empty value are dropped. Labels
+/// that are shown unchanged allocate nothing.
 ///
 /// Fails only with `Error::Memory`.
-pub fn shown_labels<'a>(alloc: Global, labels: &'a [Label]) -> Result<ShownItems<'a, Label>, Error>
-    ensures shown { MatchResult result (λ shown. shown ≡ shown_labels labels.now) (λ e. e ≡ OutOfMemory) }
-    ensures texts { OnOk result (All (λ l. IsUtf8 l.1) labels.now) }
+pub fn shown_labels<'a>(alloc: Global, key: &'a Key) -> Result<ShownLabels<'a>, Error>
+    ensures shown { MatchResult result (λ shown. shown ≡ shown_labels key.now.labels) (λ e. e ≡ OutOfMemory) }
+    ensures texts { OnOk result (All (λ l. IsUtf8 l.1) key.now.labels) }
 {
+    let labels = key.labels();
     if are_sorted(labels) && are_whole(labels) {
-        return Ok(ShownItems::given(labels));
+        return Ok(ShownLabels::given(key));
     }
-    Ok(ShownItems::made(alloc, made_labels(alloc, labels)?)?)
+    Ok(ShownLabels::made(alloc, made_labels(alloc, labels)?)?)
 }
 
 /// Returns whether a name is the one before.

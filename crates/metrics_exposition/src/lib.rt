@@ -25,4 +25,4 @@ pub use samples::{
     ascending, write_bucket, write_bucket_head, write_histogram, write_labels, write_sample,
 };
 pub use series::{ReadSeries, reading_kind};
-pub use shown::{ShownItems, ShownName};
+pub use shown::{ShownLabels, ShownName};

@@ -1,12 +1,14 @@
-//! What Prometheus is shown: the caller's names and lists if they are allowed, and else others made of them.
-ghost use Rattle.std.specs.Prelude.{◌≡◌, ◌==◌, IfOk, Some, refl, string_bytes};
+//! What Prometheus is shown: a key's own name and labels if they are allowed, and else others made of them.
+ghost use Rattle.std.specs.Prelude.{◌≡◌, ◌==◌, IfOk, IsTrue, Some, refl, string_bytes};
 ghost use Rattle.std.specs.Ordering.{nat_cmp};
 ghost use Rattle.std.specs.Cmp.{partial_equiv_from_equiv};
-ghost use Rattle.std.specs.Cmp.Lexicographic.{pointwise, slice_cmp, slice_partial_cmp, nat_list_eq_equiv, nat_list_cmp_total};
-ghost use Rattle.std.specs.Cmp.Lexicographic.{texts_po, texts_ties, lists_equiv, lists_agrees};
-ghost use Rattle.std.specs.Cmp.Lexicographic.{lists_total, lists_ties, lists_per, lists_po};
+ghost use Rattle.std.specs.Cmp.Lexicographic.{pointwise, slice_cmp, nat_list_eq_equiv, nat_list_cmp_total};
+ghost use Rattle.std.specs.Cmp.Lexicographic.{texts_po, texts_ties};
+ghost use Rattle.metrics_names.specs.Names.{label_eq, label_cmp};
+ghost use Rattle.metrics_exposition.specs.Labels.{AreReady};
+ghost use Rattle.metrics_exposition.specs.LabelOrder.{labels_equiv, labels_total, labels_ties, labels_po};
 
-use metrics::Key;
+use metrics::{Key, Label};
 use std::alloc::{AllocError, Global};
 use std::cmp::Ordering;
 use std::marker::Model;
@@ -114,92 +116,116 @@ impl Ord for ShownName<'_> {
     }
 }
 
-/// A list of the caller's, or one that was made.
+/// A key whose own labels are ready, a key with its own labels, or labels that were made.
 #[derive(Drop)]
-enum ItemList<'a, T> {
-    Given(&'a [T]),
-    Made(Box<Vec<T>>),
+enum LabelList<'a> {
+    Ready(&'a Key),
+    Given(&'a Key),
+    Made(Box<Vec<Label>>),
 }
 
-/// A list that is shown: the caller's, or one that was made. Contracts see it as that list. Lists compare item by item.
+/// Labels that are shown: a key's own, or some that were made. Contracts see them as their list. They compare label by label.
 #[derive(Drop)]
-pub struct ShownItems<'a, T> {
-    list: ItemList<'a, T>,
+pub struct ShownLabels<'a> {
+    list: LabelList<'a>,
 }
 
-impl<'a, T> Model for ShownItems<'a, T> {
+impl<'a> Model for ShownLabels<'a> {
     ghost use Rattle.std.specs.Prelude.{List};
-    ghost use Rattle.metrics_exposition.specs.Shown.{items_in};
+    ghost use Rattle.metrics_names.specs.Names.{LabelParts};
+    ghost use Rattle.metrics_exposition.specs.Shown.{labels_in, AreKnown};
 
-    ghost Value = { List T };
+    ghost Value = { List LabelParts };
 
-    ghost view = { λ a. items_in a.list };
+    ghost view = { λ a. labels_in a.list };
+
+    ghost invariant = { λ a. AreKnown a.list };
 }
 
-impl<'a, T> ShownItems<'a, T> {
-    /// Returns the caller's list. Allocates nothing.
-    pub fn given(list: &'a [T]) -> ShownItems<'a, T>
-        ensures { result ≡ list.now }
+impl<'a> ShownLabels<'a> {
+    /// Returns the labels of a key, which are ready. Allocates nothing.
+    pub fn ready(key: &'a Key) -> ShownLabels<'a>
+        requires { AreReady key.now.labels }
+        ensures { result ≡ key.now.labels }
     {
-        ShownItems {
-            list: ItemList::Given(list),
+        ShownLabels {
+            list: LabelList::Ready(key),
         }
     }
 
-    /// Returns a list that was made. Fails when out of memory.
-    pub fn made(alloc: Global, list: Vec<T>) -> Result<ShownItems<'a, T>, AllocError>
-    where
-        T: Drop,
+    /// Returns the labels of a key. Allocates nothing.
+    pub fn given(key: &'a Key) -> ShownLabels<'a>
+        ensures { result ≡ key.now.labels }
+    {
+        ShownLabels {
+            list: LabelList::Given(key),
+        }
+    }
+
+    /// Returns labels that were made. Fails when out of memory.
+    pub fn made(alloc: Global, list: Vec<Label>) -> Result<ShownLabels<'a>, AllocError>
         ensures { IfOk result (λ l. l ≡ list.items) }
     {
-        Ok(ShownItems {
-            list: ItemList::Made(Box::new(alloc, list)?),
+        Ok(ShownLabels {
+            list: LabelList::Made(Box::new(alloc, list)?),
         })
     }
 
-    /// Returns the items.
-    pub fn as_slice(&self) -> &[T]
+    /// Returns the labels.
+    pub fn as_slice(&self) -> &[Label]
         ensures { result.now ≡ self.now }
     {
         match &self.list {
-            ItemList::Given(list) => list,
-            ItemList::Made(list) => list.as_slice(),
+            LabelList::Ready(key) => key.labels(),
+            LabelList::Given(key) => key.labels(),
+            LabelList::Made(list) => list.as_slice(),
+        }
+    }
+
+    /// Returns whether they are known to be ready.
+    pub fn is_ready(&self) -> bool
+        ensures { IsTrue result → AreReady self.now }
+    {
+        match &self.list {
+            LabelList::Ready(_) => true,
+            LabelList::Given(_) => false,
+            LabelList::Made(_) => false,
         }
     }
 }
 
-impl<T: PartialEq> PartialEq for ShownItems<'_, T> {
-    ghost eq = { pointwise T.eq };
+impl PartialEq for ShownLabels<'_> {
+    ghost eq = { pointwise label_eq };
 
-    ghost laws = { lists_per T.laws };
+    ghost laws = { partial_equiv_from_equiv labels_equiv };
 
     fn eq(&self, other: &Self) -> bool {
         self.as_slice() == other.as_slice()
     }
 }
 
-impl<T: Eq> Eq for ShownItems<'_, T> {
-    ghost laws = { lists_equiv T.Eq.laws };
+impl Eq for ShownLabels<'_> {
+    ghost laws = { labels_equiv };
 }
 
-impl<T: PartialOrd> PartialOrd for ShownItems<'_, T> {
-    ghost partial_cmp = { slice_partial_cmp T.partial_cmp };
+impl PartialOrd for ShownLabels<'_> {
+    ghost partial_cmp = { λ s t. Some (slice_cmp label_cmp s t) };
 
-    ghost laws = { lists_po T.PartialOrd.laws };
+    ghost laws = { labels_po };
 
     fn partial_cmp(&self, other: &Self) -> Option<Ordering> {
-        self.as_slice().partial_cmp(&other.as_slice())
+        Some(self.cmp(other))
     }
 }
 
-impl<T: Ord> Ord for ShownItems<'_, T> {
-    ghost cmp = { slice_cmp T.cmp };
+impl Ord for ShownLabels<'_> {
+    ghost cmp = { slice_cmp label_cmp };
 
-    ghost total = { lists_total T.total };
+    ghost total = { labels_total };
 
-    ghost matches_partial_cmp = { lists_agrees T.matches_partial_cmp };
+    ghost matches_partial_cmp = { λ s t. refl };
 
-    ghost matches_eq = { lists_ties T.cmp T.matches_eq };
+    ghost matches_eq = { labels_ties };
 
     fn cmp(&self, other: &Self) -> Ordering {
         self.as_slice().cmp(&other.as_slice())

@@ -23,7 +23,7 @@ pub fn write_repeated(
         ≡ string_bytes counted.text ++ repeated_line (series_at kind key.now)) }
     ensures err { IfErr result (λ e. e ≡ OutOfMemory) }
 {
-    let labels = shown_labels(alloc, key.labels())?;
+    let labels = shown_labels(alloc, key)?;
     let row = ShownRow {
         name: ShownName::given(key),
         kind,

@@ -4,9 +4,9 @@ ghost use Rattle.std.specs.List.Sorted.{IsSorted};
 ghost use Rattle.metrics_names.specs.Names.{label_cmp};
 ghost use Rattle.metrics_exposition.specs.Labels.{are_fit};
 
-use metrics::{Key, Label, MetricKind};
+use metrics::{Key, MetricKind};
 use metrics_exporter::ReadingRef;
-use metrics_exposition::{ShownItems, ShownName, are_fit};
+use metrics_exposition::{ShownLabels, ShownName, are_fit};
 
 /// A series as Prometheus is shown it: name, kind and labels, and beside them its own key. Rows compare in this order. The
 /// description of the name and what the series has go along.
@@ -18,7 +18,7 @@ pub(crate) struct ShownRow<'a> {
     /// The decimal places of its numbers.
     #[derive_where(skip)]
     pub places: u16,
-    pub labels: ShownItems<'a, Label>,
+    pub labels: ShownLabels<'a>,
     /// Whether the labels are known to be fit.
     #[derive_where(skip)]
     pub is_fit: bool,

@@ -13,7 +13,7 @@ use crate::row::ShownRow;
 use metrics::{Error, Key, Label, MetricKind};
 use metrics_exporter::{Descriptions, ReadingRef, SeriesReading};
 use metrics_exposition::{
-    DecimalPlaces, Naming, ReadSeries, ShownItems, ShownName, all_places, first_value,
+    DecimalPlaces, Naming, ReadSeries, ShownLabels, ShownName, all_places, first_value,
     reading_kind, shown_labels, shown_name, shown_places,
 };
 use std::alloc::{AllocError, Global};
@@ -126,19 +126,15 @@ fn head_of<'a, P: DecimalPlaces>(
 }
 
 /// The labels that Prometheus is shown. Ready ones are the key's own.
-fn labels_of<'a>(
-    alloc: Global,
-    key: &'a Key,
-    is_ready: bool,
-) -> Result<ShownItems<'a, Label>, Error>
+fn labels_of<'a>(alloc: Global, key: &'a Key, is_ready: bool) -> Result<ShownLabels<'a>, Error>
     requires { IsTrue is_ready → AreReady key.now.labels }
     ensures shown { MatchResult result (λ shown. shown ≡ shown_labels key.now.labels) (λ e. e ≡ OutOfMemory) }
     ensures texts { OnOk result (All (λ l. IsUtf8 l.1) key.now.labels) }
 {
     if is_ready {
-        return Ok(ShownItems::given(key.labels()));
+        return Ok(ShownLabels::ready(key));
     }
-    shown_labels(alloc, key.labels())
+    shown_labels(alloc, key)
 }
 
 /// The row of a series. What its kind and name are shown with is kept for the next one.

@@ -15,7 +15,7 @@ overflow_add-result c =
     let counted = c.args.counted in
     let n = counted.left_out + 1 in
     let row : ShownRow = record { name = c.given.result; kind = c.args.kind; places = 0; labels = c.in_ok-labels.labels; is_fit = false; key = c.args.key; help = None; reading = Count 0; fit = λ e. absurd (false≢true e) } in
-    let more = line-more (row_shown row) (labels_taken c.name.result.now) (subst AreKeyed (sym c.in_ok-labels.ensures.shown) (labels-keyed c.labels.result.now)) (string_bytes counted.text) counted.left_out counted.whole in
+    let more = line-more (row_shown row) (labels_taken c.name.result.now) (subst AreKeyed (sym c.in_ok-labels.ensures.shown) (labels-keyed c.args.key.now.labels)) (string_bytes counted.text) counted.left_out counted.whole in
     let whole = subst (λ t. LeavesOut t n) (sym (c.in_ok-write_left_out.ensures {u = tt})) more in
     let text = c.write_left_out.new.text in
     let size : text.bytes.len ≡ length (string_bytes text) = text.bytes.ok.0 in
@@ -26,6 +26,6 @@ invariant_of-result c =
     let counted = c.args.counted in
     let n = counted.left_out + 1 in
     let row : ShownRow = record { name = c.given.result; kind = c.args.kind; places = 0; labels = c.in_ok-labels.labels; is_fit = false; key = c.args.key; help = None; reading = Count 0; fit = λ e. absurd (false≢true e) } in
-    let more = line-more (row_shown row) (labels_taken c.name.result.now) (subst AreKeyed (sym c.in_ok-labels.ensures.shown) (labels-keyed c.labels.result.now)) (string_bytes counted.text) counted.left_out counted.whole in
+    let more = line-more (row_shown row) (labels_taken c.name.result.now) (subst AreKeyed (sym c.in_ok-labels.ensures.shown) (labels-keyed c.args.key.now.labels)) (string_bytes counted.text) counted.left_out counted.whole in
     let whole = subst (λ t. LeavesOut t n) (sym (c.in_ok-write_left_out.ensures {u = tt})) more in
     record { number = number-of (string_bytes c.write_left_out.new.text) n whole; whole = whole }
