@@ -102,11 +102,13 @@ by-value (f ∷ fs) (l ∷ ls) (m ∷ ms) h g o =
     let same : slice_cmp label_cmp (l ∷ ls) (m ∷ ms) ≡ ordering_then value rest = ap (λ k. ordering_then (ordering_then k value) rest) tied in
     ap (λ s. ordering_then value (ordering_then s o)) same ∙ twice value rest o ∙ sym (ap (λ s. ordering_then s o) same)
 
-head-is : (first r : ShownRow) → HasHead first r → (r.kind ≡ first.kind) × (r.name ≡ first.name) × (are_led first.labels r.labels ≡ true)
+head-is : (first r : ShownRow) → HasHead first r → (r.head.value.kind ≡ first.head.value.kind) × (r.head.value.name ≡ first.head.value.name) × (are_led first.labels r.labels ≡ true)
 head-is first r h =
-    let both = both-true (kind_eq r.kind first.kind) (bytes_eq r.name first.name && are_led first.labels r.labels) h in
-    let rest = both-true (bytes_eq r.name first.name) (are_led first.labels r.labels) both.1 in
-    (same-kind r.kind first.kind both.0, same-bytes r.name first.name rest.0, rest.1)
+    let a = r.head.value in
+    let b = first.head.value in
+    let both = both-true (kind_eq a.kind b.kind) (bytes_eq a.name b.name && are_led first.labels r.labels) h in
+    let rest = both-true (bytes_eq a.name b.name) (are_led first.labels r.labels) both.1 in
+    (same-kind a.kind b.kind both.0, same-bytes a.name b.name rest.0, rest.1)
 
 abbrev IsKnown : ShownRow → Place → Type 0
 IsKnown first p = IsPlaced true p × HasHead first p.row.now

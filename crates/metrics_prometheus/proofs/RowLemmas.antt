@@ -3,8 +3,9 @@ use Rattle.std.proofs.Common.{◌≡◌, ◌∙◌, ◌+◌, ◌<◌, ℕ, zero,
 use Rattle.std.specs.Prelude.{IsPermutation}
 use Rattle.std.specs.List.{AllByRecursion}
 use Rattle.std.specs.List.Sorted.{IsSorted}
-use Rattle.std.specs.Ordering.{is_lt}
+use Rattle.std.specs.Ordering.{is_lt, ordering_then}
 use Rattle.std.specs.declared.cmp.Ordering.{Ordering}
+use Rattle.std.specs.declared.cmp.Ordering.TheVariants.{Less, Equal, Greater}
 use Rattle.std.proofs.lemmas.List.{take_more, map-append}
 use Rattle.std.proofs.lemmas.List.Sorted.{IsPermutation-refl}
 use Rattle.metrics_exporter.specs.Exporting.{Reading, Cells}
@@ -32,6 +33,12 @@ module _ {A B : Type 0} (f : A → B) where
       let below : k < length (x ∷ xs) = omega (arith, fits) in
       ap is_lt (ap (λ s. D s (get_or (map f (x ∷ xs)) k d)) (map-get (x ∷ xs) (k + 1) d x fits) ∙ ap (D (f (get_or (x ∷ xs) (k + 1) x))) (map-get (x ∷ xs) k d x below) ∙ sym (same (get_or (x ∷ xs) (k + 1) x) (get_or (x ∷ xs) k x)))
       ∙ up k x (omega arith) fits
+
+-- the first of three orders decides before the other two
+pub then-first : (o p q : Ordering) → ordering_then (ordering_then o p) q ≡ ordering_then o (ordering_then p q)
+then-first Less p q = refl
+then-first Equal p q = refl
+then-first Greater p q = refl
 
 -- one row more
 pub rows-more : {S : Type 0} (keyed : S → KeyedReading) (display : Display) (xs ys : List ShownRow) (ss : List S) (i : ℕ) (x : ShownRow) (s : S)

@@ -34,7 +34,7 @@ are_led (l ∷ ls) (m ∷ ms) = bytes_eq l.0 m.0
 
 -- a row has the name, kind and first label's key of the first
 abbrev pub has_head : ShownRow → ShownRow → Bool
-has_head first r = kind_eq r.kind first.kind && (bytes_eq r.name first.name && are_led first.labels r.labels)
+has_head first r = kind_eq r.head.value.kind first.head.value.kind && (bytes_eq r.head.value.name first.head.value.name && are_led first.labels r.labels)
 
 abbrev pub HasHead : ShownRow → ShownRow → Type 0
 HasHead first r = has_head first r ≡ true

@@ -16,7 +16,7 @@ use Rattle.metrics_prometheus.specs.Exposition.{Row, row_of, row_cmp, reading_at
 
 -- the row that a reference shows
 abbrev pub row_shown : ShownRow → Row
-row_shown r = record { name = r.name; kind = r.kind; labels = r.labels; key = r.key.now; help = option_map (λ t. t.now) r.help; places = r.places }
+row_shown r = record { name = r.head.value.name; kind = r.head.value.kind; labels = r.labels; key = r.key.now; help = option_map (λ t. t.now) r.head.value.help; places = r.head.value.places }
 
 abbrev pub rows_shown : List ShownRow → List Row
 rows_shown rows = map row_shown rows
@@ -38,7 +38,7 @@ Shows cells r = reading_at cells (row_shown r) ≡ Some (reading_shown r.reading
 
 -- the series of a row with what it shows
 abbrev pub keyed_shown : ShownRow → KeyedReading
-keyed_shown r = (series_at r.kind r.key.now, reading_shown r.reading)
+keyed_shown r = (series_at r.head.value.kind r.key.now, reading_shown r.reading)
 
 -- rows are those of their series, in order, each once
 pub record AreRowsOf (display : Display) (keyed : List KeyedReading) (rows : List ShownRow) : Type 0 where

@@ -35,16 +35,16 @@ ghost use Rattle.metrics_prometheus.specs.Rows.{reason_shown, row_shown, names_s
 /// Why a row's labels keep it from the text.
 fn labels_reason<'r>(row: &'r ShownRow<'_>) -> Option<Reason<'r>>
     requires { IsSorted label_cmp row.now.labels }
-    ensures { option_map reason_shown result ≡ labels_reason row.now.kind row.now.labels }
+    ensures { option_map reason_shown result ≡ labels_reason row.now.head.value.kind row.now.labels }
 {
-    if row.is_fit {
+    if row.labels.is_ready() {
         return None;
     }
     let labels = row.labels.as_slice();
     if repeats(labels) {
         return Some(Reason::LabelTwice);
     }
-    match reserved_of(row.kind, labels) {
+    match reserved_of(row.head.kind, labels) {
         Some(name) => Some(Reason::LabelReserved(name)),
         None => None,
     }
@@ -64,11 +64,11 @@ fn name_reason<'r>(histograms: &[&'r str], name: &[u8]) -> Option<Reason<'r>>
 }
 
 /// Why a row can't be next to one of its name that was written.
-fn same_name_reason<'r>(written: &ShownRow<'r>, row: &ShownRow<'_>) -> Option<Reason<'r>>
+fn same_name_reason<'r>(written: &'r ShownRow<'_>, row: &ShownRow<'_>) -> Option<Reason<'r>>
     ensures { option_map reason_shown result ≡ same_name_reason (row_shown written.now) (row_shown row.now) }
 {
-    if written.kind != row.kind {
-        return Some(Reason::NameTaken(written.kind));
+    if written.head.kind != row.head.kind {
+        return Some(Reason::NameTaken(written.head.kind));
     }
     if are_equal(written.labels.as_slice(), row.labels.as_slice()) {
         return Some(Reason::LabelsTaken(written.key.name()));
@@ -77,8 +77,8 @@ fn same_name_reason<'r>(written: &ShownRow<'r>, row: &ShownRow<'_>) -> Option<Re
 }
 
 /// Why a row can't be next to the one that was written last, if that has its name.
-fn last_reason<'r>(last: Option<&ShownRow<'r>>, row: &ShownRow<'_>) -> Option<Reason<'r>>
-    requires { IfSome last (λ w. w.now.name ≡ row.now.name) }
+fn last_reason<'r>(last: Option<&'r ShownRow<'_>>, row: &ShownRow<'_>) -> Option<Reason<'r>>
+    requires { IfSome last (λ w. w.now.head.value.name ≡ row.now.head.value.name) }
     ensures { option_map reason_shown result ≡ last_reason (option_map (λ w. row_shown w.now) last.entry) (row_shown row.now) }
 {
     match last {
@@ -90,19 +90,19 @@ fn last_reason<'r>(last: Option<&ShownRow<'r>>, row: &ShownRow<'_>) -> Option<Re
 /// Why a row is left out beside rows with these histograms, if it is. The row that was written last counts if it has its name.
 pub(crate) fn reason_of<'r>(
     histograms: &[&'r str],
-    last: Option<&ShownRow<'r>>,
+    last: Option<&'r ShownRow<'_>>,
     row: &'r ShownRow<'_>,
 ) -> Option<Reason<'r>>
     requires sorted { IsSorted (slice_cmp nat_cmp) (names_shown histograms.now) }
     requires labels { IsSorted label_cmp row.now.labels }
-    requires named { IfSome last (λ w. w.now.name ≡ row.now.name) }
+    requires named { IfSome last (λ w. w.now.head.value.name ≡ row.now.head.value.name) }
     ensures { (rows : List Row) → names_shown histograms.now ≡ histogram_names rows → option_map reason_shown result
         ≡ reason_of rows (option_map (λ w. row_shown w.now) last.entry) (row_shown row.now) }
 {
     if let Some(reason) = labels_reason(row) {
         return Some(reason);
     }
-    if let Some(reason) = name_reason(histograms, row.name.as_str().as_bytes()) {
+    if let Some(reason) = name_reason(histograms, row.head.name.as_str().as_bytes()) {
         return Some(reason);
     }
     last_reason(last, row)
@@ -135,7 +135,7 @@ fn write_reason(text: &mut String, reason: Reason<'_>) -> Result<(), AllocError>
 fn write_series(text: &mut String, row: &ShownRow<'_>) -> Result<(), AllocError>
     ensures { OnOk result (string_bytes text.new ≡ string_bytes text.old ++ series_named (row_shown row.now)) }
 {
-    text.push_str(row.kind.as_str())?;
+    text.push_str(row.head.kind.as_str())?;
     text.push_str(" ")?;
     write_help_text(text, row.key.name())?;
     write_labels(text, row.labels.as_slice())

@@ -6,11 +6,12 @@ ghost use Rattle.metrics_prometheus.specs.Repeated.{repeated_line};
 
 use crate::counted::CountedText;
 use crate::reasons::{Reason, write_left_out};
-use crate::row::ShownRow;
+use crate::row::{Head, ShownRow};
 use metrics::{Error, Key, MetricKind};
 use metrics_exporter::ReadingRef;
 use metrics_exposition::{ShownName, shown_labels};
 use std::alloc::Global;
+use std::rc::Rc;
 
 /// Adds the line that a series is left out, since a series of its own name and labels is written: it comes again.
 pub fn write_repeated(
@@ -24,14 +25,16 @@ pub fn write_repeated(
     ensures err { IfErr result (λ e. e ≡ OutOfMemory) }
 {
     let labels = shown_labels(alloc, key)?;
-    let row = ShownRow {
+    let head = Head {
         name: ShownName::given(key),
         kind,
         places: 0,
-        labels,
-        is_fit: false,
-        key,
         help: None,
+    };
+    let row = ShownRow {
+        head: Rc::new(alloc, head)?,
+        labels,
+        key,
         reading: ReadingRef::Count(0),
     };
     let CountedText { mut text, left_out } = counted;

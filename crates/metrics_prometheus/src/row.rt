@@ -1,5 +1,5 @@
 //! A series as Prometheus is shown it.
-ghost use Rattle.std.specs.Prelude.{◌≡◌, true};
+ghost use Rattle.std.specs.Prelude.{◌≡◌};
 ghost use Rattle.std.specs.List.Sorted.{IsSorted};
 ghost use Rattle.metrics_names.specs.Names.{label_cmp};
 ghost use Rattle.metrics_exposition.specs.Labels.{are_fit};
@@ -7,33 +7,38 @@ ghost use Rattle.metrics_exposition.specs.Labels.{are_fit};
 use metrics::{Key, MetricKind};
 use metrics_exporter::ReadingRef;
 use metrics_exposition::{ShownLabels, ShownName, are_fit};
+use std::rc::Rc;
 
-/// A series as Prometheus is shown it: name, kind and labels, and beside them its own key. Rows compare in this order. The
-/// description of the name and what the series has go along.
+/// What the series of a kind and name are shown with: a name and the kind, by which heads compare, and the description of the
+/// name.
+#[derive(Drop)]
+#[derive_where(PartialEq, Eq, PartialOrd, Ord)]
+pub(crate) struct Head<'a> {
+    pub name: ShownName<'a>,
+    pub kind: MetricKind,
+    /// The decimal places of the series' numbers.
+    #[derive_where(skip)]
+    pub places: u16,
+    #[derive_where(skip)]
+    pub help: Option<&'a str>,
+}
+
+/// A series as Prometheus is shown it: its head, which other rows may share, its labels, and beside them its own key. Rows
+/// compare in this order. What the series has goes along.
 #[derive(Drop)]
 #[derive_where(PartialEq, Eq, PartialOrd, Ord)]
 pub(crate) struct ShownRow<'a> {
-    pub name: ShownName<'a>,
-    pub kind: MetricKind,
-    /// The decimal places of its numbers.
-    #[derive_where(skip)]
-    pub places: u16,
+    pub head: Rc<Head<'a>>,
     pub labels: ShownLabels<'a>,
-    /// Whether the labels are known to be fit.
-    #[derive_where(skip)]
-    pub is_fit: bool,
     pub key: &'a Key,
     #[derive_where(skip)]
-    pub help: Option<&'a str>,
-    #[derive_where(skip)]
     pub reading: ReadingRef<'a>,
-    pub ghost fit: { is_fit ≡ true → are_fit kind labels ≡ true },
 }
 
 /// Returns whether a row's labels are fit.
 pub(crate) fn is_fit(row: &ShownRow<'_>) -> bool
     requires { IsSorted label_cmp row.now.labels }
-    ensures { result ≡ are_fit row.now.kind row.now.labels }
+    ensures { result ≡ are_fit row.now.head.value.kind row.now.labels }
 {
-    row.is_fit || are_fit(row.kind, row.labels.as_slice())
+    row.labels.is_ready() || are_fit(row.head.kind, row.labels.as_slice())
 }

@@ -9,7 +9,7 @@ ghost use Rattle.metrics_prometheus.specs.Exposition.{row_cmp};
 ghost use Rattle.metrics_exposition.specs.Reading.{IsOfKind};
 ghost use Rattle.metrics_prometheus.specs.Rows.{HasTexts};
 
-use crate::row::ShownRow;
+use crate::row::{Head, ShownRow};
 use metrics::{Error, Key, Label, MetricKind};
 use metrics_exporter::{Descriptions, ReadingRef, SeriesReading};
 use metrics_exposition::{
@@ -17,28 +17,21 @@ use metrics_exposition::{
     reading_kind, shown_labels, shown_name, shown_places,
 };
 use std::alloc::{AllocError, Global};
+use std::rc::Rc;
 
-/// What a kind and name are shown with.
-#[derive(Drop)]
-struct Head<'a> {
-    name: ShownName<'a>,
-    help: Option<&'a str>,
-    places: u16,
-}
-
-/// What the last kind and name are shown with.
+/// The head of the last row, and the name of its series.
 #[derive(Drop)]
 struct Known<'a> {
-    kind: MetricKind,
     name: &'a str,
-    head: Head<'a>,
+    head: Rc<Head<'a>>,
 }
 
 ghost use Rattle.std.specs.Prelude.{IfSome};
 ghost use Rattle.metrics_descriptions.specs.Legends.{described_by};
 ghost use Rattle.metrics_exposition.specs.Naming.{Display, display_by};
 ghost use Rattle.metrics_prometheus.specs.Rows.{row_shown, pair_shown, pair_of, AreRowsOf};
-ghost use Rattle.metrics_prometheus.specs.Heads.{head_shown, IsKnown};
+ghost use Rattle.metrics_prometheus.specs.Heads.{head_cmp, IsHead, IsKnown};
+ghost use Rattle.metrics_prometheus.specs.declared.row.Head.{Head as HeadParts};
 ghost use Rattle.metrics_prometheus.specs.declared.row.ShownRow.{ShownRow as RowParts};
 
 /// Looks up what a kind and name are shown with.
@@ -51,7 +44,7 @@ fn found_head<'a, P: DecimalPlaces>(
     key: &'a Key,
 ) -> Result<Head<'a>, Error>
     ensures { MatchResult result
-        (λ head. head_shown head ≡ display_by naming (described_by descriptions.now) (P.places scale.now) kind key.now.name)
+        (λ head. IsHead (display_by naming (described_by descriptions.now) (P.places scale.now)) kind key.now.name head)
         (λ e. e ≡ OutOfMemory) }
 {
     let described = descriptions.get(kind, key.name());
@@ -60,19 +53,9 @@ fn found_head<'a, P: DecimalPlaces>(
     let shown = shown_name(alloc, naming, kind, unit, key)?;
     Ok(Head {
         name: shown,
-        help,
+        kind,
         places: all_places(scale.places_of(key.name()), shown_places(naming, unit)),
-    })
-}
-
-/// The same head, which allocates nothing.
-fn shared_head<'a>(head: &Head<'a>) -> Result<Head<'a>, AllocError>
-    ensures { IfOk result (λ h. head_shown h ≡ head_shown head.now) }
-{
-    Ok(Head {
-        name: head.name.shared()?,
-        help: head.help,
-        places: head.places,
+        help,
     })
 }
 
@@ -81,13 +64,13 @@ fn known_head<'l, 'a>(
     last: &'l Option<Known<'a>>,
     kind: MetricKind,
     name: &str,
-) -> Option<&'l Head<'a>>
+) -> Option<&'l Rc<Head<'a>>>
     ensures { (display : Display) → IfSome last.now (IsKnown display)
-        → IfSome result (λ h. head_shown h.now ≡ display kind name.now) }
+        → IfSome result (λ h. IsHead display kind name.now h.now.value) }
 {
     match last {
         Some(known) => {
-            if known.kind == kind && known.name == name {
+            if known.head.kind == kind && known.name == name {
                 Some(&known.head)
             } else {
                 None
@@ -97,7 +80,7 @@ fn known_head<'l, 'a>(
     }
 }
 
-/// What a kind and name are shown with. It is looked up unless the row before has them.
+/// What a kind and name are shown with. It is looked up unless the row before has them, which then shares it.
 fn head_of<'a, P: DecimalPlaces>(
     alloc: Global,
     naming: Naming,
@@ -106,21 +89,21 @@ fn head_of<'a, P: DecimalPlaces>(
     last: &mut Option<Known<'a>>,
     kind: MetricKind,
     key: &'a Key,
-) -> Result<Head<'a>, Error>
+) -> Result<Rc<Head<'a>>, Error>
     requires { IfSome last.old (IsKnown (display_by naming (described_by descriptions.now) (P.places scale.now))) }
     ensures head { MatchResult result
-        (λ head. head_shown head ≡ display_by naming (described_by descriptions.now) (P.places scale.now) kind key.now.name)
+        (λ head. IsHead (display_by naming (described_by descriptions.now) (P.places scale.now)) kind key.now.name head.value)
         (λ e. e ≡ OutOfMemory) }
     ensures last { IfSome last.new (IsKnown (display_by naming (described_by descriptions.now) (P.places scale.now))) }
 {
     if let Some(head) = known_head(last, kind, key.name()) {
-        return Ok(shared_head(head)?);
+        return Ok(head.clone()?);
     }
-    let head = found_head(alloc, naming, scale, descriptions, kind, key)?;
+    let found = found_head(alloc, naming, scale, descriptions, kind, key)?;
+    let head = Rc::new(alloc, found)?;
     *last = Some(Known {
-        kind,
         name: key.name(),
-        head: shared_head(&head)?,
+        head: head.clone()?,
     });
     Ok(head)
 }
@@ -161,15 +144,10 @@ fn row_of<'a, P: DecimalPlaces>(
     let kind = series.reading.kind();
     let labels = labels_of(alloc, series.key, is_ready)?;
     let head = head_of(alloc, naming, scale, descriptions, last, kind, series.key)?;
-    let Head { name, help, places } = head;
     Ok(ShownRow {
-        name,
-        kind,
+        head,
         labels,
-        is_fit: is_ready,
         key: series.key,
-        help,
-        places,
         reading: series.reading,
     })
 }
@@ -206,13 +184,20 @@ pub(crate) fn rows_of<'a, P: DecimalPlaces, S: ReadSeries>(
     Ok(rows)
 }
 
+/// Does nothing. Its contract says what the order of heads is.
+fn head_order()
+    ensures { (a b : HeadParts) → ⟦<Head<'static> as Ord>⟧.cmp a b ≡ head_cmp a b }
+{}
+
 /// Does nothing. Its contract says what the order of rows is.
 pub(crate) fn row_order()
     ensures { (a b : RowParts) → ⟦<ShownRow<'static> as Ord>⟧.cmp a b ≡ row_cmp (row_shown a) (row_shown b) }
-{}
+{
+    head_order();
+}
 
 /// Returns whether two rows are of one series. The numbers of their keys mostly decide.
-fn are_same(row: &ShownRow<'_>, other: &ShownRow<'_>) -> bool
+fn are_same<'a>(row: &ShownRow<'a>, other: &ShownRow<'a>) -> bool
     ensures { result ≡ ⟦<ShownRow<'static> as PartialEq>⟧.eq row.now other.now }
 {
     row.key == other.key && row == other
@@ -280,8 +265,8 @@ fn are_led(labels: &[Label], other: &[Label]) -> bool
 fn has_head(row: &ShownRow<'_>, first: &ShownRow<'_>) -> bool
     ensures { result ≡ has_head first.now row.now }
 {
-    row.kind == first.kind
-        && row.name == first.name
+    row.head.kind == first.head.kind
+        && row.head.name == first.head.name
         && are_led(first.labels.as_slice(), row.labels.as_slice())
 }
 

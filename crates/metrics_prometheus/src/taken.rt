@@ -22,7 +22,7 @@ fn is_fit_number(row: &ShownRow<'_>) -> bool
     requires { IsSorted label_cmp row.now.labels }
     ensures { result ≡ is_fit_number (row_shown row.now) }
 {
-    row.kind != MetricKind::Histogram && is_fit(row)
+    row.head.kind != MetricKind::Histogram && is_fit(row)
 }
 
 /// The name of the fit counter or gauge that came last.
@@ -31,7 +31,7 @@ fn last_number<'r>(last: Option<&'r str>, row: &'r ShownRow<'_>) -> Option<&'r s
     ensures { option_map (λ n. n.now) result ≡ last_number (option_map (λ n. n.now) last.entry) (row_shown row.now) }
 {
     if is_fit_number(row) {
-        Some(row.name.as_str())
+        Some(row.head.name.as_str())
     } else {
         last
     }
@@ -42,7 +42,7 @@ fn is_fit_histogram(row: &ShownRow<'_>) -> bool
     requires { IsSorted label_cmp row.now.labels }
     ensures { result ≡ is_fit_histogram (row_shown row.now) }
 {
-    row.kind == MetricKind::Histogram && is_fit(row)
+    row.head.kind == MetricKind::Histogram && is_fit(row)
 }
 
 /// Returns whether a name is a part of a histogram of these names.
@@ -63,7 +63,7 @@ fn uses_name(histograms: &[&str], last: Option<&str>, row: &ShownRow<'_>) -> boo
     ensures { result ≡ uses_name (names_shown histograms.now) (option_map (λ n. n.now) last.entry) (row_shown row.now) }
 {
     is_fit_histogram(row)
-        && (!is_last(last, row.name.as_str()) && !is_part(histograms, row.name.as_str().as_bytes()))
+        && (!is_last(last, row.head.name.as_str()) && !is_part(histograms, row.head.name.as_str().as_bytes()))
 }
 
 /// The names that histograms use for their samples, in order: those of the histograms that are written.
@@ -80,7 +80,7 @@ pub(crate) fn histogram_names<'r>(
     let mut last = None;
     for place in places {
         if uses_name(&names, last, place.row) {
-            names.push(place.row.name.as_str())?;
+            names.push(place.row.head.name.as_str())?;
         }
         last = last_number(last, place.row);
     }

@@ -38,9 +38,9 @@ fn write_type_line(text: &mut String, row: &ShownRow<'_>) -> Result<(), AllocErr
     ensures { OnOk result (string_bytes text.new ≡ string_bytes text.old ++ type_line (row_shown row.now)) }
 {
     text.push_str("# TYPE ")?;
-    text.push_str(row.name.as_str())?;
+    text.push_str(row.head.name.as_str())?;
     text.push_str(" ")?;
-    text.push_str(row.kind.as_str())?;
+    text.push_str(row.head.kind.as_str())?;
     text.push_str("\n")
 }
 
@@ -63,19 +63,19 @@ fn write_help(text: &mut String, name: &str, help: Option<&str>) -> Result<(), A
 fn write_name_lines(text: &mut String, row: &ShownRow<'_>) -> Result<(), AllocError>
     ensures { OnOk result (string_bytes text.new ≡ string_bytes text.old ++ name_lines (row_shown row.now)) }
 {
-    write_help(text, row.name.as_str(), row.help)?;
+    write_help(text, row.head.name.as_str(), row.head.help)?;
     write_type_line(text, row)
 }
 
 /// The row that was written last, if it has a row's name.
 fn named<'w, 'r>(last: Option<&'w ShownRow<'r>>, row: &ShownRow<'_>) -> Option<&'w ShownRow<'r>>
     ensures named { option_map (λ w. row_shown w.now) result
-        ≡ named (option_map (λ w. row_shown w.now) last.entry) row.now.name }
-    ensures same { IfSome result (λ w. w.now.name ≡ row.now.name) }
+        ≡ named (option_map (λ w. row_shown w.now) last.entry) row.now.head.value.name }
+    ensures same { IfSome result (λ w. w.now.head.value.name ≡ row.now.head.value.name) }
 {
     match last {
         Some(written) => {
-            if written.name == row.name {
+            if written.head.name == row.head.name {
                 Some(written)
             } else {
                 None
@@ -91,7 +91,7 @@ fn write_name(
     last: Option<&ShownRow<'_>>,
     row: &ShownRow<'_>,
 ) -> Result<(), AllocError>
-    requires { IfSome last (λ w. w.now.name ≡ row.now.name) }
+    requires { IfSome last (λ w. w.now.head.value.name ≡ row.now.head.value.name) }
     ensures { OnOk result (string_bytes text.new
         ≡ string_bytes text.old ++ name_text (option_map (λ w. row_shown w.now) last.entry) (row_shown row.now)) }
 {
@@ -107,19 +107,20 @@ fn write_samples(alloc: Global, text: &mut String, row: &ShownRow<'_>) -> Result
         ++ lines (samples_of (row_shown row.now) (Some (reading_shown row.now.reading)))) }
     ensures err { IfErr result (λ e. e ≡ OutOfMemory) }
 {
-    let name = row.name.as_str();
+    let name = row.head.name.as_str();
+    let places = row.head.places;
     let labels = row.labels.as_slice();
     match row.reading {
         ReadingRef::Count(count) => {
-            write_sample(text, name, "", labels, row.places, i128::from(count))?;
+            write_sample(text, name, "", labels, places, i128::from(count))?;
             Ok(())
         }
         ReadingRef::Level(level) => {
-            write_sample(text, name, "", labels, row.places, i128::from(level))?;
+            write_sample(text, name, "", labels, places, i128::from(level))?;
             Ok(())
         }
         ReadingRef::Samples(histogram) => write_histogram(
-            alloc, text, name, labels, row.places, histogram,
+            alloc, text, name, labels, places, histogram,
         ),
     }
 }

@@ -3,6 +3,7 @@ use Rattle.std.specs.Borrow.{Bor}
 use Rattle.std.specs.List.Sorted.{IsSorted}
 use Rattle.std.specs.Cmp.Lexicographic.{slice_cmp}
 use Rattle.std.specs.Ordering.{nat_cmp}
+use Rattle.metrics_prometheus.specs.declared.row.Head.{Head}
 use Rattle.metrics_prometheus.specs.Exposition.{histogram_names, uses_name}
 use Rattle.metrics_prometheus.specs.Places.{rows_placed}
 use Rattle.metrics_prometheus.specs.Rows.{row_shown, rows_shown, names_shown}
@@ -28,7 +29,7 @@ loop-place-preserved c =
     let more = uses-more c.args.places.now c.loop-place.place-index place (names_shown items) (names_shown c.if-uses_name.names.items) _ last _ c.loop-place-test.true c.place-item.is in
     let same = ap (λ (l : List (Bor (List ℕ))). uses_name (names_shown l) last row) (sym c.deref.ensures.value) ∙ sym c.uses_name.ensures in
     elim c.if-uses_name.branch [
-      | then-uses_name+in_ok-push w ↦ more (ap (λ v. names_shown v.items) w.names-is ∙ used-then items w.push.new.self.items _ (uses_name (names_shown items) last row) row.name w.in_ok-push.ensures.items w.as_str.ensures (same ∙ w.if-uses_name.true)) c.last_number-last.ensures c.loop-place.invariant
+      | then-uses_name+in_ok-push w ↦ more (ap (λ v. names_shown v.items) w.names-is ∙ used-then items w.push.new.self.items _ (uses_name (names_shown items) last row) row.name w.in_ok-push.ensures.items (w.as_str.ensures ∙ ap (λ (h : Head). h.name) w.deref-then-uses_name.ensures) (same ∙ w.if-uses_name.true)) c.last_number-last.ensures c.loop-place.invariant
       | else-uses_name w ↦ more (ap (λ v. names_shown v.items) w.names-is ∙ sym (ap (λ b. cond b (names_shown items ++ row.name ∷ []) (names_shown items)) (same ∙ w.if-uses_name.false))) c.last_number-last.ensures c.loop-place.invariant
     ]
 
