@@ -18,4 +18,5 @@ pub mod OneTextLemmas
 pub mod TypeLemmas
 pub mod HelpLemmas
 pub mod PlaceLemmas
+pub mod OneHeadLemmas
 pub mod CountLemmas

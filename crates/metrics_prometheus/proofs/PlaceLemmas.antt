@@ -1,6 +1,6 @@
 -- Rows in order of their places.
-use Rattle.std.proofs.Common.{◌≡◌, ◌∙◌, ◌+◌, ◌<◌, ℕ, Bool, true, false, cond, ◌&&◌, List, [], ◌∷◌, ◌++◌, map, length, get_or, take, refl, ap, sym, subst, arith}
-use Rattle.std.specs.Prelude.{IsPermutation, IsTrue, bytes_eq}
+use Rattle.std.proofs.Common.{◌≡◌, ◌∙◌, ◌+◌, ◌<◌, ℕ, Bool, true, false, cond, List, [], ◌∷◌, ◌++◌, map, length, get_or, take, refl, ap, sym, subst, arith}
+use Rattle.std.specs.Prelude.{IsPermutation, IsTrue}
 use Rattle.std.specs.List.{AllByRecursion, All, dedup, dedup_from}
 use Rattle.std.specs.List.Sorted.{IsSorted}
 use Rattle.std.specs.Cmp.Lexicographic.{slice_cmp}
@@ -13,16 +13,18 @@ use Rattle.std.proofs.lemmas.List.Elements.{All-from_recursion, recursion_from_A
 use Rattle.std.proofs.lemmas.List.Sorted.{All-permutation}
 use Rattle.metrics_names.specs.declared.kind.MetricKind.{MetricKind}
 use Rattle.metrics_names.specs.declared.kind.MetricKind.TheVariants.{Counter, Gauge, Histogram}
-use Rattle.metrics_names.specs.Names.{LabelParts, kind_eq, kind_number, label_cmp, key_cmp}
+use Rattle.metrics_names.specs.Names.{LabelParts, kind_number, label_cmp, key_cmp}
+use Rattle.metrics_prometheus.specs.declared.row.Head.{Head}
 use Rattle.metrics_prometheus.specs.declared.row.ShownRow.{ShownRow}
 use Rattle.metrics_prometheus.specs.declared.rows.Place.{Place}
 use Rattle.metrics_prometheus.specs.Exposition.{Row, row_cmp}
 use Rattle.metrics_prometheus.specs.Rows.{row_shown}
-use Rattle.metrics_prometheus.specs.Places.{rows_placed, place_cmp, value_placed, IsPlaced, are_led, HasHead, AreAlike}
+use Rattle.metrics_prometheus.specs.Places.{rows_placed, place_cmp, value_placed, IsPlaced, are_led, IsLed, AreLed}
+use Rattle.metrics_prometheus.specs.Heads.{HaveOneHead}
 use Rattle.metrics_exposition.specs.Labels.{first_value}
 use Rattle.metrics_exposition.proofs.PairLemmas.{each-at, each-append, each-both}
 use Rattle.metrics_prometheus.proofs.RowLemmas.{map-length, map-get}
-use Rattle.metrics_exposition.proofs.SameLemmas.{both-true, same-kind, same-bytes}
+use Rattle.metrics_exposition.proofs.SameLemmas.{same-bytes}
 use Rattle.metrics_exposition.proofs.OrderLemmas.{names}
 
 -- ---- lists that are mapped
@@ -102,28 +104,20 @@ by-value (f ∷ fs) (l ∷ ls) (m ∷ ms) h g o =
     let same : slice_cmp label_cmp (l ∷ ls) (m ∷ ms) ≡ ordering_then value rest = ap (λ k. ordering_then (ordering_then k value) rest) tied in
     ap (λ s. ordering_then value (ordering_then s o)) same ∙ twice value rest o ∙ sym (ap (λ s. ordering_then s o) same)
 
-head-is : (first r : ShownRow) → HasHead first r → (r.head.value.kind ≡ first.head.value.kind) × (r.head.value.name ≡ first.head.value.name) × (are_led first.labels r.labels ≡ true)
-head-is first r h =
-    let a = r.head.value in
-    let b = first.head.value in
-    let both = both-true (kind_eq a.kind b.kind) (bytes_eq a.name b.name && are_led first.labels r.labels) h in
-    let rest = both-true (bytes_eq a.name b.name) (are_led first.labels r.labels) both.1 in
-    (same-kind a.kind b.kind both.0, same-bytes a.name b.name rest.0, rest.1)
+-- a place by the first label's value, of a row with this head and the first label's key of these labels
+abbrev IsKnown : Head → List LabelParts → Place → Type 0
+IsKnown h labels p = IsPlaced true p × ((p.row.now.head.value ≡ h) × IsLed labels p.row.now)
 
-abbrev IsKnown : ShownRow → Place → Type 0
-IsKnown first p = IsPlaced true p × HasHead first p.row.now
-
-alike-cmp : (first : ShownRow) (a b : Place) → IsKnown first a → IsKnown first b → place_cmp a b ≡ row_cmp (row_shown a.row.now) (row_shown b.row.now)
-alike-cmp first a b ka kb =
+alike-cmp : (h : Head) (labels : List LabelParts) (a b : Place) → IsKnown h labels a → IsKnown h labels b → place_cmp a b ≡ row_cmp (row_shown a.row.now) (row_shown b.row.now)
+alike-cmp h labels a b ka kb =
     let x = row_shown a.row.now in
     let y = row_shown b.row.now in
-    let ha = head-is first a.row.now ka.1 in
-    let hb = head-is first b.row.now kb.1 in
+    let head : a.row.now.head.value ≡ b.row.now.head.value = ka.1.0 ∙ sym kb.1.0 in
     let value : Ordering = names (first_value x.labels) (first_value y.labels) in
     let keys : Ordering = key_cmp x.key y.key in
-    let same : row_cmp x y ≡ ordering_then (slice_cmp label_cmp x.labels y.labels) keys = by-labels x y (ha.1 ∙ sym hb.1) (ha.0 ∙ sym hb.0) in
+    let same : row_cmp x y ≡ ordering_then (slice_cmp label_cmp x.labels y.labels) keys = by-labels x y (ap (λ (h : Head). h.name) head) (ap (λ (h : Head). h.kind) head) in
     ap (λ l. ordering_then (names l b.value.now) (row_cmp x y)) ka.0 ∙ ap (λ l. ordering_then (names (first_value x.labels) l) (row_cmp x y)) kb.0
-    ∙ ap (ordering_then value) same ∙ by-value first.labels x.labels y.labels ha.2 hb.2 keys ∙ sym same
+    ∙ ap (ordering_then value) same ∙ by-value labels x.labels y.labels ka.1.1 kb.1.1 keys ∙ sym same
 
 other-cmp : (a b : Place) → IsPlaced false a → IsPlaced false b → place_cmp a b ≡ row_cmp (row_shown a.row.now) (row_shown b.row.now)
 other-cmp a b ka kb =
@@ -131,17 +125,22 @@ other-cmp a b ka kb =
     ap (λ l. ordering_then (names l b.value.now) o) ka ∙ ap (λ l. ordering_then (names [] l) o) kb
 
 pub placed-sorted : (C : Place → Place → Ordering) (R : ShownRow → ShownRow → Ordering) → ((a b : Place) → C a b ≡ place_cmp a b) → ((a b : ShownRow) → R a b ≡ row_cmp (row_shown a) (row_shown b))
-    → (alike : Bool) (rows : List ShownRow) (us ps : List Place) → rows_placed us ≡ rows → IsPermutation us ps → AllByRecursion (IsPlaced alike) us → (IsTrue alike → AreAlike rows) → IsSorted C ps → IsSorted R (rows_placed ps)
-placed-sorted C R places order false rows us ps are moved each heads up =
+    → (alike : Bool) (rows : List ShownRow) (us ps : List Place) → rows_placed us ≡ rows → IsPermutation us ps → AllByRecursion (IsPlaced alike) us
+    → (IsTrue alike → HaveOneHead rows) → (IsTrue alike → AreLed rows) → IsSorted C ps → IsSorted R (rows_placed ps)
+placed-sorted C R places order false rows us ps are moved each heads keys up =
     let f : Place → ShownRow = λ p. p.row.now in
     let P : Place → Type 0 = IsPlaced false in
     let known : AllByRecursion P ps = recursion_from_All P ps (All-permutation P us ps moved (All-from_recursion P us each)) in
     sorted-where f P C R (λ a b ka kb. places a b ∙ other-cmp a b ka kb ∙ sym (order (f a) (f b))) ps known up
-placed-sorted C R places order true rows us ps are moved each heads up =
+placed-sorted C R places order true rows us ps are moved each heads keys up =
     let f : Place → ShownRow = λ p. p.row.now in
-    let alike = heads refl in
-    let P : Place → Type 0 = IsKnown alike.0 in
-    let have : AllByRecursion (λ p. HasHead alike.0 (f p)) us = each-mapped f (HasHead alike.0) us (recursion_from_All (HasHead alike.0) (rows_placed us) (subst (All (HasHead alike.0)) (sym are) alike.1)) in
-    let both : AllByRecursion P us = each-both (IsPlaced true) (λ p. HasHead alike.0 (f p)) us each have in
+    let one : HaveOneHead rows = heads refl in
+    let led : AreLed rows = keys refl in
+    let H : ShownRow → Type 0 = λ r. r.head.value ≡ one.0 in
+    let L : ShownRow → Type 0 = IsLed led.0 in
+    let P : Place → Type 0 = IsKnown one.0 led.0 in
+    let has : AllByRecursion (λ p. H (f p)) us = each-mapped f H us (subst (AllByRecursion H) (sym are) one.1) in
+    let keyed : AllByRecursion (λ p. L (f p)) us = each-mapped f L us (recursion_from_All L (rows_placed us) (subst (All L) (sym are) led.1)) in
+    let both : AllByRecursion P us = each-both (IsPlaced true) (λ p. H (f p) × L (f p)) us each (each-both (λ p. H (f p)) (λ p. L (f p)) us has keyed) in
     let known : AllByRecursion P ps = recursion_from_All P ps (All-permutation P us ps moved (All-from_recursion P us both)) in
-    sorted-where f P C R (λ a b ka kb. places a b ∙ alike-cmp alike.0 a b ka kb ∙ sym (order (f a) (f b))) ps known up
+    sorted-where f P C R (λ a b ka kb. places a b ∙ alike-cmp one.0 led.0 a b ka kb ∙ sym (order (f a) (f b))) ps known up

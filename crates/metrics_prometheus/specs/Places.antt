@@ -1,10 +1,10 @@
 -- Rows by reference, in their places.
-use Rattle.std.specs.Prelude.{if◌then◌else◌, ◌≡◌, ℕ, Bool, true, false, ◌&&◌, bytes_eq, List, [], ◌∷◌, map}
+use Rattle.std.specs.Prelude.{if◌then◌else◌, ◌≡◌, ℕ, Bool, true, false, bytes_eq, List, [], ◌∷◌, map}
 use Rattle.std.specs.List.{All}
 use Rattle.std.specs.Cmp.Lexicographic.{slice_cmp}
 use Rattle.std.specs.declared.cmp.Ordering.{Ordering}
 use Rattle.std.specs.Ordering.{nat_cmp, on, then_cmp}
-use Rattle.metrics_names.specs.Names.{LabelParts, kind_eq}
+use Rattle.metrics_names.specs.Names.{LabelParts}
 use Rattle.metrics_prometheus.specs.declared.row.ShownRow.{ShownRow}
 use Rattle.metrics_prometheus.specs.declared.rows.Place.{Place}
 use Rattle.metrics_prometheus.specs.Exposition.{row_cmp}
@@ -32,13 +32,10 @@ are_led [] ms = false
 are_led (l ∷ ls) [] = false
 are_led (l ∷ ls) (m ∷ ms) = bytes_eq l.0 m.0
 
--- a row has the name, kind and first label's key of the first
-abbrev pub has_head : ShownRow → ShownRow → Bool
-has_head first r = kind_eq r.head.value.kind first.head.value.kind && (bytes_eq r.head.value.name first.head.value.name && are_led first.labels r.labels)
+-- a row has the first label's key of these labels
+abbrev pub IsLed : List LabelParts → ShownRow → Type 0
+IsLed labels r = are_led labels r.labels ≡ true
 
-abbrev pub HasHead : ShownRow → ShownRow → Type 0
-HasHead first r = has_head first r ≡ true
-
--- rows of one name, kind and first label's key
-abbrev pub AreAlike : List ShownRow → Type 0
-AreAlike rows = (first : ShownRow) × All (HasHead first) rows
+-- rows of one first label's key
+abbrev pub AreLed : List ShownRow → Type 0
+AreLed rows = (labels : List LabelParts) × All (IsLed labels) rows

@@ -24,13 +24,15 @@ use std::rc::Rc;
 struct Known<'a> {
     name: &'a str,
     head: Rc<Head<'a>>,
+    /// Whether no other head came before.
+    is_first: bool,
 }
 
 ghost use Rattle.std.specs.Prelude.{IfSome};
 ghost use Rattle.metrics_descriptions.specs.Legends.{described_by};
 ghost use Rattle.metrics_exposition.specs.Naming.{Display, display_by};
 ghost use Rattle.metrics_prometheus.specs.Rows.{row_shown, pair_shown, pair_of, AreRowsOf};
-ghost use Rattle.metrics_prometheus.specs.Heads.{head_cmp, IsHead, IsKnown};
+ghost use Rattle.metrics_prometheus.specs.Heads.{head_cmp, IsHead, IsKnown, IsLast, Follows, is_only, HaveOneHead};
 ghost use Rattle.metrics_prometheus.specs.declared.row.Head.{Head as HeadParts};
 ghost use Rattle.metrics_prometheus.specs.declared.row.ShownRow.{ShownRow as RowParts};
 
@@ -65,8 +67,9 @@ fn known_head<'l, 'a>(
     kind: MetricKind,
     name: &str,
 ) -> Option<&'l Rc<Head<'a>>>
-    ensures { (display : Display) → IfSome last.now (IsKnown display)
+    ensures head { (display : Display) → IfSome last.now (IsKnown display)
         → IfSome result (λ h. IsHead display kind name.now h.now.value) }
+    ensures last { IfSome result (λ h. IsLast last.now h.now.value) }
 {
     match last {
         Some(known) => {
@@ -95,6 +98,7 @@ fn head_of<'a, P: DecimalPlaces>(
         (λ head. IsHead (display_by naming (described_by descriptions.now) (P.places scale.now)) kind key.now.name head.value)
         (λ e. e ≡ OutOfMemory) }
     ensures last { IfSome last.new (IsKnown (display_by naming (described_by descriptions.now) (P.places scale.now))) }
+    ensures follows { IfOk result (λ head. Follows last.old head.value last.new) }
 {
     if let Some(head) = known_head(last, kind, key.name()) {
         return Ok(head.clone()?);
@@ -104,6 +108,7 @@ fn head_of<'a, P: DecimalPlaces>(
     *last = Some(Known {
         name: key.name(),
         head: head.clone()?,
+        is_first: last.is_none(),
     });
     Ok(head)
 }
@@ -139,6 +144,7 @@ fn row_of<'a, P: DecimalPlaces>(
     ensures texts { OnOk result (HasTexts (keyed_reading series.entry)) }
     ensures kind { OnOk result (IsOfKind (keyed_reading series.entry)) }
     ensures last { IfSome last.new (IsKnown (display_by naming (described_by descriptions.now) (P.places scale.now))) }
+    ensures follows { IfOk result (λ row. Follows last.old row.head.value last.new) }
 {
     reading_kind(series.reading);
     let kind = series.reading.kind();
@@ -152,20 +158,31 @@ fn row_of<'a, P: DecimalPlaces>(
     })
 }
 
-/// A row for each series, in their order.
+/// Whether the head of the last row is the only one.
+fn is_only(last: &Option<Known<'_>>) -> bool
+    ensures { result ≡ is_only last.now }
+{
+    match last {
+        Some(known) => known.is_first,
+        None => false,
+    }
+}
+
+/// A row for each series, in their order, and whether they are known to have one head.
 pub(crate) fn rows_of<'a, P: DecimalPlaces, S: ReadSeries>(
     alloc: Global,
     naming: Naming,
     scale: &P,
     descriptions: &'a Descriptions,
     series: &'a [S],
-) -> Result<Vec<ShownRow<'a>>, Error>
+) -> Result<(Vec<ShownRow<'a>>, bool), Error>
     ensures rows { MatchResult result
-        (λ rows. map pair_shown rows.items
+        (λ r. map pair_shown r.0.items
         ≡ map (pair_of (display_by naming (described_by descriptions.now) (P.places scale.now))) (map S.keyed series.now))
         (λ e. e ≡ OutOfMemory) }
     ensures texts { OnOk result (All HasTexts (map S.keyed series.now)) }
     ensures kinds { OnOk result (All IsOfKind (map S.keyed series.now)) }
+    ensures one { IfOk result (λ r. IsTrue r.1 → HaveOneHead r.0.items) }
 {
     let mut rows = Vec::with_capacity(alloc, series.len())?;
     let mut last = None;
@@ -181,7 +198,8 @@ pub(crate) fn rows_of<'a, P: DecimalPlaces, S: ReadSeries>(
         )?;
         rows.push(row)?;
     }
-    Ok(rows)
+    let have_one_head = is_only(&last);
+    Ok((rows, have_one_head))
 }
 
 /// Does nothing. Its contract says what the order of heads is.
@@ -203,8 +221,8 @@ fn are_same<'a>(row: &ShownRow<'a>, other: &ShownRow<'a>) -> bool
     row.key == other.key && row == other
 }
 
-/// A row by reference. Before the row itself, this text decides its place: the value of its first label, if all rows have one
-/// name, kind and first label's key, and nothing otherwise.
+/// A row by reference. Before the row itself, this text decides its place: the value of its first label, if all rows are known
+/// to have one head and one first label's key, and nothing otherwise.
 #[derive(Clone, Copy, PartialEq, Eq, PartialOrd, Ord)]
 pub(crate) struct Place<'r, 'a> {
     pub value: &'r str,
@@ -213,7 +231,7 @@ pub(crate) struct Place<'r, 'a> {
 
 ghost use Rattle.metrics_prometheus.specs.declared.rows.Place.{Place as PlaceParts};
 ghost use Rattle.metrics_prometheus.specs.Places.{rows_placed, place_cmp, value_placed, IsPlaced};
-ghost use Rattle.metrics_prometheus.specs.Places.{are_led, has_head, HasHead, AreAlike};
+ghost use Rattle.metrics_prometheus.specs.Places.{are_led, IsLed, AreLed};
 
 /// Does nothing. Its contract says what the order of places is.
 fn place_order()
@@ -261,46 +279,48 @@ fn are_led(labels: &[Label], other: &[Label]) -> bool
     }
 }
 
-/// Returns whether a row has the name, kind and first label's key of the first.
-fn has_head(row: &ShownRow<'_>, first: &ShownRow<'_>) -> bool
-    ensures { result ≡ has_head first.now row.now }
-{
-    row.head.kind == first.head.kind
-        && row.head.name == first.head.name
-        && are_led(first.labels.as_slice(), row.labels.as_slice())
-}
-
-/// Returns whether each row has the name, kind and first label's key of the first.
-fn have_head(rows: &[ShownRow<'_>], first: &ShownRow<'_>) -> bool
-    ensures { IsTrue result → All (HasHead first.now) rows.now }
+/// Returns whether each row has such a first label's key.
+fn have_key(rows: &[ShownRow<'_>], labels: &[Label]) -> bool
+    ensures { IsTrue result → All (IsLed labels.now) rows.now }
 {
     for row in rows {
-        if !has_head(row, first) {
+        if !are_led(labels, row.labels.as_slice()) {
             return false;
         }
     }
     true
 }
 
-/// Returns whether all rows have one name, kind and first label's key.
-fn are_alike(rows: &[ShownRow<'_>]) -> bool
-    ensures { IsTrue result → AreAlike rows.now }
+/// Returns whether all rows have one first label's key.
+fn have_one_key(rows: &[ShownRow<'_>]) -> bool
+    ensures { IsTrue result → AreLed rows.now }
 {
     match rows {
         [] => false,
-        [first, ..] => have_head(rows, first),
+        [first, ..] => have_key(rows, first.labels.as_slice()),
     }
+}
+
+/// Returns whether all rows have one head, as is known, and one first label's key.
+fn are_alike(rows: &[ShownRow<'_>], have_one_head: bool) -> bool
+    requires { IsTrue have_one_head → HaveOneHead rows.now }
+    ensures head { IsTrue result → HaveOneHead rows.now }
+    ensures key { IsTrue result → AreLed rows.now }
+{
+    have_one_head && have_one_key(rows)
 }
 
 /// The rows, in order. A repeated series has one row.
 pub(crate) fn sorted_rows<'r, 'a>(
     alloc: Global,
     rows: &'r [ShownRow<'a>],
+    have_one_head: bool,
 ) -> Result<Vec<Place<'r, 'a>>, AllocError>
+    requires { IsTrue have_one_head → HaveOneHead rows.now }
     ensures { (display : Display) (keyed : List KeyedReading) → map pair_shown rows.now ≡ map (pair_of display) keyed
         → IfOk result (λ places. AreRowsOf display keyed (rows_placed places.items)) }
 {
-    let mut places = places_of(alloc, rows, are_alike(rows))?;
+    let mut places = places_of(alloc, rows, are_alike(rows, have_one_head))?;
     row_order();
     place_order();
     places.sort()?;

@@ -209,8 +209,8 @@ pub fn counted_exposition_of<P: DecimalPlaces, S: ReadSeries>(
             left_out: 0,
         });
     }
-    let rows = rows_of(alloc, naming, scale, descriptions, series)?;
-    let places = sorted_rows(alloc, &rows)?;
+    let (rows, have_one_head) = rows_of(alloc, naming, scale, descriptions, series)?;
+    let places = sorted_rows(alloc, &rows, have_one_head)?;
     let (text, left_out) = rows_text(alloc, &places)?;
     Ok(CountedText { text, left_out })
 }

@@ -9,6 +9,7 @@ use Rattle.metrics_exposition.specs.Labels.{AreReady}
 use Rattle.metrics_exposition.specs.Reading.{IsOfKind}
 use Rattle.metrics_prometheus.specs.Rows.{pair_of, HasTexts}
 use Rattle.metrics_prometheus.proofs.RowLemmas.{rows-more}
+use Rattle.metrics_prometheus.proofs.OneHeadLemmas.{have-more, have-one}
 use Rattle.metrics_prometheus.proofs.rows.rows_of.Goals as goal
 
 pub row_of-requires-clause-ready : goal.row_of-requires-clause-ready
@@ -24,6 +25,7 @@ loop-one-preserved g c =
     let row = c.in_ok-row.row in
     let same = c.reading.ensures in
     record {
+      only = have-more c.loop-one.last c.row_of.new.last c.loop-one.rows.items c.push.new.self.items row c.in_ok-push.ensures.items c.in_ok-row.ensures.follows c.loop-one.invariant.only;
       last = c.row_of.ensures.last;
       rows = rows-more keyed display c.loop-one.rows.items c.push.new.self.items series i row one c.loop-one-test.true c.one-item.is c.in_ok-push.ensures.items (c.in_ok-row.ensures.row ∙ ap (pair_of display) same) c.loop-one.invariant.rows;
       texts = All-more (λ s. HasTexts (keyed s)) series i one c.loop-one-test.true c.loop-one.invariant.texts (subst (λ s. HasTexts (keyed s)) c.one-item.is (subst HasTexts same c.in_ok-row.ensures.texts));
@@ -39,3 +41,6 @@ pub returns-clause-kinds : goal.returns-clause-kinds
 returns-clause-kinds g c =
     let keyed = g.S.ReadSeries.keyed in
     All-map IsOfKind keyed c.args.series.now (subst (All (λ s. IsOfKind (keyed s))) (take_all c.loop-one.one-index c.args.series.now c.loop-one-test.false) c.loop-one.invariant.kinds)
+
+pub returns-clause-one : goal.returns-clause-one
+returns-clause-one g c = λ is. have-one c.loop-one.last c.loop-one.rows.items c.loop-one.invariant.only (sym c.is_only-have_one_head.ensures ∙ is)
