@@ -1,5 +1,5 @@
 -- The table of (kind, key) to generation and moment: one check.
-use Rattle.std.specs.Prelude.{◌≡◌, ◌==◌, ℕ, ◌-◌, Bool, true, false, ◌&&◌, if◌then◌else◌, List, [], ◌∷◌, Option, None, Some, Result, MatchResult, is_some, nat_lt}
+use Rattle.std.specs.Prelude.{◌≡◌, ◌==◌, ℕ, ◌-◌, Bool, true, false, not, ◌&&◌, if◌then◌else◌, List, [], ◌∷◌, Option, None, Some, Result, MatchResult, is_some, nat_lt}
 use Rattle.metrics.specs.declared.error.Error.{Error}
 use Rattle.metrics.specs.declared.error.Error.TheVariants.{Memory}
 use Rattle.metrics_registry.specs.declared.recency.Noted.{Noted}
@@ -62,6 +62,14 @@ table_answer rules c table = (check_step rules c (table c.kind c.key)).0
 -- the table after a check
 abbrev pub table_after : {K : Type 0} → (K → K → Bool) → Rules → Check K → Table K → Table K
 table_after same rules c table = λ kind key. if is_of same c kind key then (check_step rules c (table c.kind c.key)).1 else table kind key
+
+-- the result of a check, or None if it adds a note
+abbrev pub glance : {K : Type 0} → Rules → Check K → Option Noted → Option Bool
+glance rules c noted = if is_watched rules c.kind && not (is_some noted) then None else Some (check_step rules c noted).0
+
+-- what is noted after it, if it adds no note
+abbrev pub rechecked : {K : Type 0} → Rules → Check K → Option Noted → Option Noted
+rechecked rules c noted = if is_watched rules c.kind && not (is_some noted) then None else (check_step rules c noted).1
 
 -- the results of checks, one after another
 abbrev pub table_answers : {K : Type 0} → (K → K → Bool) → Rules → Table K → List (Check K) → List Bool

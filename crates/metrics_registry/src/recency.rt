@@ -31,6 +31,34 @@ pub(crate) struct Noted {
     moment: u64,
 }
 
+/// Whether a key that is noted stays, if it is held.
+fn stays(note: &Noted, timeout: u64, seen: Noted) -> bool
+    ensures { result ≡ (watch_step (Some timeout) seen true (Some note.now)).0 }
+{
+    note.generation != seen.generation || seen.moment.saturating_sub(note.moment) <= timeout
+}
+
+/// Checks a key of a watched kind, whether it is held or not, as long as this adds no note: one that isn't noted stays so. One
+/// that goes is no longer noted.
+fn recheck<K: Hash + Drop>(
+    noted: &mut HashMap<K, Noted>,
+    timeout: u64,
+    key: &K,
+    seen: Noted,
+)
+    ensures { (q : K) → get K.eq noted.new q ≡ (if is_some (get K.eq noted.old q) && K.eq key.now q
+        then (watch_step (Some timeout) seen true (get K.eq noted.old key.now)).1 else get K.eq noted.old q) }
+{
+    let Some(note) = noted.get_mut(key) else {
+        return;
+    };
+    if note.generation != seen.generation {
+        *note = seen;
+    } else if !stays(note, timeout, seen) {
+        noted.remove(key);
+    }
+}
+
 /// Notes a check of a key of a watched kind, and returns whether the key stays, whether it is held or not.
 fn note<K: Hash + EqualClone + Drop>(
     noted: &mut HashMap<K, Noted>,
@@ -53,7 +81,7 @@ fn note<K: Hash + EqualClone + Drop>(
         *note = seen;
         return Ok(true);
     }
-    Ok(seen.moment.saturating_sub(note.moment) <= timeout)
+    Ok(stays(note, timeout, seen))
 }
 
 /// One check of a key among the cells of a watched kind.
@@ -231,7 +259,7 @@ impl<K: Hashable + EqualClone + Drop> OwnedRecency<K> {
 
 /// The two parts of a check, for a caller that reads the cells only if the notes require it.
 impl<K: Hashable + EqualClone + Drop> OwnedRecency<K> {
-    ghost use Rattle.metrics_registry.specs.Recency.{is_watched, table_answer, table_after};
+    ghost use Rattle.metrics_registry.specs.Recency.{is_watched, table_answer, table_after, glance, rechecked};
     ghost use Rattle.metrics_registry.specs.RecencyEntries.{rules_of, table_of, check_of};
 
     /// Returns whether a series may be idle at all: without a timeout none ever is.
@@ -272,6 +300,46 @@ impl<K: Hashable + EqualClone + Drop> OwnedRecency<K> {
             moment: now,
         };
         note(self.noted.of_mut(kind), timeout, key, seen)
+    }
+
+    /// Returns what `note` would answer, or `None` if it would add a note. It notes nothing.
+    pub fn peek(
+        &self,
+        kind: MetricKind,
+        key: &K,
+        generation: Generation,
+        now: u64,
+    ) -> Option<bool>
+        ensures { result ≡ glance (rules_of self.now) (check_of kind key.now generation now true)
+            (table_of K.eq self.now kind key.now) }
+    {
+        let Some(timeout) = self.timeout_of(kind) else {
+            return Some(true);
+        };
+        let note = self.noted.of(kind).get(key)?;
+        let seen = Noted {
+            generation,
+            moment: now,
+        };
+        Some(stays(note, timeout, seen))
+    }
+
+    /// Checks a series in place, and removes the note of one that is no longer in use. It does nothing where `peek` returns
+    /// `None`.
+    pub fn recheck(&mut self, kind: MetricKind, key: &K, generation: Generation, now: u64)
+        ensures rules { rules_of self.new ≡ rules_of self.old }
+        ensures checked { (k : AnyKind) (q : K) → table_of K.eq self.new k q
+            ≡ (if kind_eq kind k && K.eq key.now q then rechecked (rules_of self.old)
+            (check_of kind key.now generation now true) (table_of K.eq self.old kind key.now) else table_of K.eq self.old k q) }
+    {
+        let Some(timeout) = self.timeout_of(kind) else {
+            return;
+        };
+        let seen = Noted {
+            generation,
+            moment: now,
+        };
+        recheck(self.noted.of_mut(kind), timeout, key, seen);
     }
 
     /// Removes the note of a series.
