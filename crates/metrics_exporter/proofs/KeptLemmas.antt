@@ -1,12 +1,12 @@
 -- What an exporter keeps after one more call.
-use Rattle.std.proofs.Common.{◌≡◌, ℕ, Bool, true, false, cond, not, List, [], ◌∷◌, ◌++◌, Option, None, Some, Result, Ok, Err, IfErr, OnOk, inl, inr, refl, ap, sym, ◌∙◌, subst, reverse, append-nil}
-use Rattle.std.specs.Prelude.{◌&&◌, ◌↔◌, option_map, ◌⊎◌}
+use Rattle.std.proofs.Common.{◌≡◌, Bool, true, false, cond, List, [], ◌∷◌, ◌++◌, Option, None, Some, Result, Ok, Err, IfErr, OnOk, inl, inr, refl, ap, sym, ◌∙◌, subst, reverse, append-nil}
+use Rattle.std.specs.Prelude.{◌↔◌, option_map, ◌⊎◌}
 use Rattle.std.proofs.lemmas.Grind.{flat_map-append}
 use Rattle.std.proofs.lemmas.List.{reverse-append}
 use Rattle.metrics_names.specs.declared.kind.MetricKind.{MetricKind}
 use Rattle.metrics_names.specs.declared.kind.MetricKind.TheVariants.{Counter, Gauge, Histogram}
 use Rattle.metrics_names.specs.declared.common.Unit.{Unit as Measure}
-use Rattle.metrics_names.specs.Names.{KeyParts, SeriesKey, key_eq, series_key_eq}
+use Rattle.metrics_names.specs.Names.{KeyParts, key_eq, series_key_eq}
 use Rattle.metrics.specs.declared.error.Error.{Error}
 use Rattle.metrics.specs.declared.error.Error.TheVariants.{Memory, CountFull}
 use Rattle.std.proofs.lemmas.Bool.{false≢true}
@@ -16,19 +16,18 @@ use Rattle.metrics.specs.declared.handles.Update.TheVariants.{Increment, Absolut
 use Rattle.metrics.specs.Book.{kind_of}
 use Rattle.metrics_storage.specs.Histogram.{no_samples}
 use Rattle.metrics_registry.specs.Held.{held}
-use Rattle.metrics_registry.specs.declared.recency.OwnedRecency.{OwnedRecency}
-use Rattle.metrics_registry.specs.Recency.{Check, Table, new_table, table_answer, table_after, table_answers}
+use Rattle.metrics_registry.specs.Recency.{Rules, Check, Table, new_table, table_answer, table_after, table_answers}
 use Rattle.metrics_registry.specs.RecencyEntries.{rules_of, table_of}
 use Rattle.metrics_registry.specs.Idleness.{Answered, run_answer, run_answers, TableGivesRuns}
 use Rattle.metrics_exporter.specs.declared.exporter.Exporter.{Exporter}
-use Rattle.metrics_exporter.specs.Exporting.{Setup, Event, updates_in, Log, Step, updated_in, checked, steps, steps_of, series_of, count, level, samples, Cell, Cells, IsFull, cells_after, checks_in, check_of_held}
-use Rattle.metrics_exporter.specs.Stepping.{cell_has_room, TakesUpdate, RefusesUpdate, UpdatesCells, ChecksCells, cell_with, or_new, new_cell, cells_without, notes_without}
+use Rattle.metrics_exporter.specs.Exporting.{Setup, Event, updates_in, Log, Step, updated_in, steps, steps_of, series_of, count, level, samples, Cell, Cells, IsFull, cells_after}
+use Rattle.metrics_exporter.specs.Stepping.{cell_has_room, TakesUpdate, RefusesUpdate, UpdatesCells, cell_with, or_new, new_cell}
 use Rattle.metrics_exporter.specs.Choice.{bounds_in}
-use Rattle.metrics_exporter.specs.Kept.{SeriesRegistry, cells_of, empty_in, HasBounds, Keeps, KeepsBut, IsAfter}
+use Rattle.metrics_exporter.specs.Kept.{SeriesRegistry, cells_of, empty_in, HasBounds, AnswersAfter, Keeps, IsAfter}
 use Rattle.metrics_exporter.specs.Gathering.{cell_in}
 use Rattle.metrics_descriptions.specs.Legends.{Legend}
 use Rattle.metrics_exporter.specs.Describing.{unit_told}
-use Rattle.metrics_exporter.proofs.StepLemmas.{cells-updated, cells-checked, checks-updated, checks-checked}
+use Rattle.metrics_exporter.proofs.StepLemmas.{cells-updated, checks-updated}
 
 -- ---- the calls as steps
 
@@ -96,75 +95,16 @@ tail_of : {A : Type 0} → List A → List A
 tail_of [] = []
 tail_of (x ∷ xs) = xs
 
-module _ (setup : Setup) (xs : List Step) (r : SeriesRegistry) (a : OwnedRecency KeyParts) (gone : List SeriesKey) (now : ℕ) (s : SeriesKey) (stays : Bool) (kept : KeepsBut gone setup xs r a) where
-  abbrev pub check_made : Check KeyParts
-  check_made = check_of_held (cells_without gone (cells_of r)) now s
-
-  abbrev pub made_check : Answered KeyParts
-  made_check = record { check = check_made; answer = stays }
-
-  abbrev earlier : List (Answered KeyParts)
-  earlier = reverse (checks_in xs)
-
-  abbrev table : Table KeyParts
-  table = notes_without gone (table_of key_eq a)
-
-  -- the check is answered as idleness is defined
-  pub check-answer : stays ≡ table_answer (rules_of a) check_made table → stays ≡ run_answer key_eq setup.rules earlier check_made
-  unfolding head_or
-  check-answer answer =
-      answer ∙ ap (λ q. table_answer q check_made table) kept.rules
-      ∙ unfolded (kept.checks (check_made ∷ []))
-    where
-      unfolded : table_answers key_eq setup.rules table (check_made ∷ []) ≡ run_answers key_eq setup.rules earlier (check_made ∷ []) → table_answer setup.rules check_made table ≡ run_answer key_eq setup.rules earlier check_made
-      unfolded e = ap (head_or true) e
-
-  later : (checks : List (Check KeyParts)) → stays ≡ run_answer key_eq setup.rules earlier check_made
-      → table_answers key_eq setup.rules (table_after key_eq setup.rules check_made table) checks ≡ run_answers key_eq setup.rules (made_check ∷ earlier) checks
-  unfolding tail_of
-  later checks answer =
-      let rest : table_answers key_eq setup.rules (table_after key_eq setup.rules check_made table) checks ≡ run_answers key_eq setup.rules (record { check = check_made; answer = run_answer key_eq setup.rules earlier check_made } ∷ earlier) checks =
-      ap tail_of (kept.checks (check_made ∷ checks)) in
-      rest ∙ ap (λ q. run_answers key_eq setup.rules (record { check = check_made; answer = q } ∷ earlier) checks) (sym answer)
-
-  pub keeps-checked : (b : OwnedRecency KeyParts) (out : List SeriesKey) → rules_of b ≡ rules_of a
-      → ChecksCells (rules_of a) check_made s table (notes_without out (table_of key_eq b)) (cells_without gone (cells_of r)) (cells_without out (cells_of r)) stays → KeepsBut out setup (xs ++ checked made_check ∷ []) r b
-  keeps-checked b out rules changed = record {
-    bounds = kept.bounds;
-    rules = rules ∙ kept.rules;
-    cells = λ t. changed.cells t ∙ ap (cond (not stays && series_key_eq s t) None) (kept.cells t) ∙ sym (cells-checked setup xs made_check t);
-    checks = λ checks.
-        ap (λ t. table_answers key_eq setup.rules t checks) (λ i kind key. (changed.notes kind key ∙ ap (λ q. table_after key_eq q check_made table kind key) kept.rules) i)
-        ∙ later checks (check-answer changed.answer)
-        ∙ ap (λ l. run_answers key_eq setup.rules l checks) (sym (ap reverse (checks-checked xs made_check) ∙ reverse-append (checks_in xs) (made_check ∷ [])));
-  }
-
--- ---- series that are removed
-
--- none are to be removed
-pub keeps-none : (setup : Setup) (xs : List Step) (a : Exporter) → Keeps setup xs a → KeepsBut [] setup xs a.registry a.recency
-keeps-none setup xs a kept = record { bounds = kept.bounds; rules = kept.rules; cells = kept.cells; checks = kept.checks }
-
--- notes that say the same
-pub keeps-noted : (setup : Setup) (xs : List Step) (gone : List SeriesKey) (r : SeriesRegistry) (a b : OwnedRecency KeyParts) → rules_of b ≡ rules_of a
-    → ((kind : MetricKind) (key : KeyParts) → table_of key_eq b kind key ≡ table_of key_eq a kind key) → KeepsBut gone setup xs r a → KeepsBut gone setup xs r b
-keeps-noted setup xs gone r a b rules notes kept = record {
-  bounds = kept.bounds;
-  rules = rules ∙ kept.rules;
-  cells = kept.cells;
-  checks = λ checks. ap (λ t. table_answers key_eq setup.rules (notes_without gone t) checks) (λ i kind key. notes kind key i) ∙ kept.checks checks;
-}
-
--- they were removed
-pub keeps-removed : (setup : Setup) (xs : List Step) (gone : List SeriesKey) (a b : Exporter) → b.registry.storage ≡ a.registry.storage → rules_of b.recency ≡ rules_of a.recency
-    → ((s : SeriesKey) → cells_of b.registry s ≡ cells_without gone (cells_of a.registry) s)
-    → ((kind : MetricKind) (key : KeyParts) → table_of key_eq b.recency kind key ≡ notes_without gone (table_of key_eq a.recency) kind key) → KeepsBut gone setup xs a.registry a.recency → Keeps setup xs b
-keeps-removed setup xs gone a b storage rules cells notes kept = record {
-  bounds = λ unit name. ap (λ s. bounds_in s.bounds unit name) storage ∙ kept.bounds unit name;
-  rules = rules ∙ kept.rules;
-  cells = λ s. cells s ∙ kept.cells s;
-  checks = λ checks. ap (λ t. table_answers key_eq setup.rules t checks) (λ i kind key. notes kind key i) ∙ kept.checks checks;
-}
+-- one more check is answered as idleness is defined
+pub answers-more : (rules : Rules) (table : Table KeyParts) (done : List (Answered KeyParts)) (c : Check KeyParts) → AnswersAfter rules table done
+    → AnswersAfter rules (table_after key_eq rules c table) (done ++ record { check = c; answer = table_answer rules c table } ∷ [])
+unfolding head_or tail_of
+answers-more rules table done c after = λ checks.
+    let one : table_answer rules c table ≡ run_answer key_eq rules (reverse done) c = ap (head_or true) (after (c ∷ checks)) in
+    let rest : table_answers key_eq rules (table_after key_eq rules c table) checks ≡ run_answers key_eq rules (record { check = c; answer = run_answer key_eq rules (reverse done) c } ∷ reverse done) checks =
+    ap tail_of (after (c ∷ checks)) in
+    rest ∙ ap (λ b. run_answers key_eq rules (record { check = c; answer = b } ∷ reverse done) checks) (sym one)
+    ∙ ap (λ l. run_answers key_eq rules l checks) (sym (reverse-append done (record { check = c; answer = table_answer rules c table } ∷ [])))
 
 -- ---- the calls
 

@@ -10,8 +10,8 @@ pub mod EntryLemmas
 pub mod RoomLemmas
 pub mod KeptLemmas
 pub mod AbsorbLemmas
+pub mod NotingLemmas
 pub mod ExpiryLemmas
 pub mod LawLemmas
-pub mod UnwatchedLemmas
 pub mod SeenLemmas
 pub mod BoundListsLemmas

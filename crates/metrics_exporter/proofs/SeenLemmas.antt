@@ -1,9 +1,9 @@
 -- The held series with their cells: gathered of all shards, in order, and read.
-use Rattle.std.proofs.Common.{◌≡◌, ℕ, zero, suc, ◌<◌, Bool, true, false, cond, List, [], ◌∷◌, ◌++◌, map, length, get_or, Contains, Some, refl, ap, sym, ◌∙◌, subst, arith, inl, inr}
+use Rattle.std.proofs.Common.{◌≡◌, ℕ, zero, suc, ◌<◌, Bool, true, false, cond, List, [], ◌∷◌, ◌++◌, map, length, get_or, Contains, Option, None, Some, is_some, refl, ap, sym, ◌∙◌, subst, arith, inl, inr}
 use Rattle.std.specs.Prelude.{◌↔◌, option_map}
 use Rattle.std.specs.List.{IsDistinct, AllByRecursion}
 use Rattle.std.specs.List.Sorted.{IsPermutation, IsSorted}
-use Rattle.std.specs.Map.{keys_of}
+use Rattle.std.specs.Map.{keys_of, lookup}
 use Rattle.std.specs.Cmp.{IsTotalOrder}
 use Rattle.std.specs.Ordering.{eq_by_cmp}
 use Rattle.std.proofs.lemmas.Bool.{false≢true}
@@ -11,19 +11,21 @@ use Rattle.std.proofs.lemmas.List.{map-append}
 use Rattle.std.proofs.lemmas.List.Elements.{Contains-append_cases}
 use Rattle.std.proofs.lemmas.List.Sorted.{Contains-permutation, IsPermutation-sym, IsPermutation-map}
 use Rattle.std.proofs.lemmas.Map.Keys.{IsDistinct-head, IsDistinct-tail, IsDistinct-IsPermutation}
+use Rattle.std.proofs.lemmas.Map.Views.{Contains-from_lookup, IsSome-lookup_from_Contains}
 use Rattle.metrics_names.specs.declared.kind.MetricKind.{MetricKind}
 use Rattle.metrics_names.specs.declared.kind.MetricKind.TheVariants.{Counter, Gauge, Histogram}
 use Rattle.metrics_names.specs.Names.{KeyParts, SeriesKey, key_eq, series_key_eq, series_key_cmp}
-use Rattle.metrics_names.specs.Equality.{key_eq-Decides}
+use Rattle.metrics_names.specs.Equality.{key_eq-Decides, key_exact}
 use Rattle.metrics_registry.specs.declared.generation.Counted.{Counted}
-use Rattle.metrics_registry.specs.Held.{held}
+use Rattle.metrics_registry.specs.Held.{held, entries_of}
 use Rattle.metrics_registry.proofs.ShardLemmas.{map-length, map-get}
 use Rattle.metrics_exporter.specs.Exporting.{Reading, count, level, samples, Cell, Cells, IsHeld, IsHeldNumber, HoldsSome}
 use Rattle.metrics_exporter.specs.Kept.{SeriesRegistry, cells_of}
 use Rattle.metrics_exporter.specs.declared.series.SeriesRef.{SeriesRef}
-use Rattle.metrics_exporter.specs.Gathering.{series_at, series_shown, cell_shown, all_shown, Seen, seen_by, all_seen, series_in, seen_in, AreGathered, AreSeen, cell_in}
+use Rattle.metrics_exporter.specs.Gathering.{series_at, series_shown, cell_shown, all_shown, Shard, walk_of, Seen, seen_by, all_seen, series_in, seen_in, IsWalk, AreGathered, AreSeen, cell_in}
 use Rattle.metrics_exporter.specs.Readings.{KeyedReading, reading_in, all_read, AreReadings}
-use Rattle.metrics_exporter.proofs.SortedLemmas.{flips, strictly_sorted, none-distinct, distinct-all, from-all, in-all}
+use Rattle.metrics_exporter.proofs.WalkLemmas.{walk-all}
+use Rattle.metrics_exporter.proofs.SortedLemmas.{flips, key_laws, strictly_sorted, none-distinct, distinct-all, from-all, in-all}
 
 turned : (a b : KeyParts) → key_eq a b ≡ false → key_eq b a ≡ false
 turned a b h = go (key_eq b a) refl
@@ -48,14 +50,11 @@ held-each (x ∷ es) once = (
 contains-map : {A B : Type 0} (f : A → B) (xs : List A) (x : A) → Contains xs x → Contains (map f xs) (f x)
 contains-map f xs x (k, small, is) = (k, omega (arith, small, map-length f xs), sym (map-get f xs k x) ∙ ap f is)
 
-abbrev firsts : List Seen → List SeriesKey
-firsts seen = map (λ s. s.0) seen
-
-firsts-shown : (rows : List SeriesRef) → firsts (all_seen rows) ≡ all_shown rows
+pub firsts-shown : (rows : List SeriesRef) → keys_of (all_seen rows) ≡ all_shown rows
 firsts-shown [] = refl
 firsts-shown (r ∷ rows) = ap (λ l. series_shown r ∷ l) (firsts-shown rows)
 
-firsts-in : {C : Type 0} (kind : MetricKind) (read : C → Reading) (es : List (KeyParts × Counted C)) → firsts (seen_in kind read es) ≡ series_in kind es
+firsts-in : {C : Type 0} (kind : MetricKind) (read : C → Reading) (es : List (KeyParts × Counted C)) → keys_of (seen_in kind read es) ≡ series_in kind es
 firsts-in kind read [] = refl
 firsts-in kind read (e ∷ es) = ap (λ l. series_at kind e.0 ∷ l) (firsts-in kind read es)
 
@@ -79,28 +78,27 @@ module _ (r : SeriesRegistry) where
   abbrev hs : List Seen
   hs = seen_in Histogram samples r.histograms
 
-  firsts-all : firsts (cs ++ gs ++ hs) ≡ series_in Counter r.counters ++ series_in Gauge r.gauges ++ series_in Histogram r.histograms
+  firsts-all : keys_of (cs ++ gs ++ hs) ≡ series_in Counter r.counters ++ series_in Gauge r.gauges ++ series_in Histogram r.histograms
   firsts-all =
       let f : Seen → SeriesKey = λ s. s.0 in
-      map-append f (cs ++ gs) hs ∙ ap (λ l. l ++ firsts hs) (map-append f cs gs)
+      map-append f (cs ++ gs) hs ∙ ap (λ l. l ++ keys_of hs) (map-append f cs gs)
       ∙ (λ i. (firsts-in Counter count r.counters i ++ firsts-in Gauge level r.gauges i) ++ firsts-in Histogram samples r.histograms i)
 
-  -- rows that were gathered of all shards
-  pub seen-gathered : (rows : List SeriesRef) → IsPermutation (all_seen rows) (cs ++ gs ++ hs)
-      → IsDistinct key_eq (keys_of r.counters) → IsDistinct key_eq (keys_of r.gauges) → IsDistinct key_eq (keys_of r.histograms) → AreGathered (cells_of r) rows
-  seen-gathered rows walked c g h =
+  -- all of them in another order
+  pub walked : (seen : List Seen) → IsPermutation seen (cs ++ gs ++ hs)
+      → IsDistinct key_eq (keys_of r.counters) → IsDistinct key_eq (keys_of r.gauges) → IsDistinct key_eq (keys_of r.histograms) → IsWalk (cells_of r) seen
+  walked seen moved c g h =
       let f : Seen → SeriesKey = λ s. s.0 in
-      let P : List SeriesKey → List SeriesKey → Type 0 = λ l m. IsPermutation l m in
-      let there : IsPermutation (all_shown rows) (series_in Counter r.counters ++ series_in Gauge r.gauges ++ series_in Histogram r.histograms) =
-      subst (P (all_shown rows)) firsts-all (subst (λ l. P l (firsts (cs ++ gs ++ hs))) (firsts-shown rows) (IsPermutation-map f _ _ walked)) in
+      let P : List SeriesKey → Type 0 = IsPermutation (keys_of seen) in
+      let there : P (series_in Counter r.counters ++ series_in Gauge r.gauges ++ series_in Histogram r.histograms) = subst P firsts-all (IsPermutation-map f _ _ moved) in
       let back = IsPermutation-sym _ _ there in
       record {
-        once = IsDistinct-IsPermutation series_key_eq flips _ (all_shown rows) back (distinct-all r c g h);
+        once = IsDistinct-IsPermutation series_key_eq flips _ (keys_of seen) back (distinct-all r c g h);
         held = λ s. (
-          (λ is. from-all r s (Contains-permutation (all_shown rows) _ s there is)),
-          (λ some. Contains-permutation _ (all_shown rows) s back (in-all r s.kind s.key some)),
+          (λ is. from-all r s (Contains-permutation (keys_of seen) _ s there is)),
+          (λ some. Contains-permutation _ (keys_of seen) s back (in-all r s.kind s.key some)),
         );
-        own = λ x is. among (seen_by x) (Contains-permutation (all_seen rows) (cs ++ gs ++ hs) (seen_by x) walked (contains-map seen_by rows x is));
+        own = λ x is. among x (Contains-permutation seen (cs ++ gs ++ hs) x moved is);
       }
     where
       among : (s : Seen) → Contains (cs ++ gs ++ hs) s → IsRight s
@@ -111,6 +109,35 @@ module _ (r : SeriesRegistry) where
         ]
         | inr j ↦ right Histogram samples r.histograms (λ q. refl) r.histograms (held-each r.histograms h) s j.0 j.1 j.2
       ]
+
+-- a walk over all shards
+pub walked-shards : (r : SeriesRegistry) (shards : List Shard) → entries_of (map (λ (s : Shard). s.counters) shards) ≡ r.counters → entries_of (map (λ (s : Shard). s.gauges) shards) ≡ r.gauges
+    → entries_of (map (λ (s : Shard). s.histograms) shards) ≡ r.histograms → IsDistinct key_eq (keys_of r.counters) → IsDistinct key_eq (keys_of r.gauges) → IsDistinct key_eq (keys_of r.histograms)
+    → IsWalk (cells_of r) (walk_of shards)
+walked-shards r shards e1 e2 e3 c g h =
+    walked r (walk_of shards)
+    (walk-all (λ s. s.counters) (λ s. s.gauges) (λ s. s.histograms) (λ e. (series_at Counter e.0, cell_in count e.1)) (λ e. (series_at Gauge e.0, cell_in level e.1)) (λ e. (series_at Histogram e.0, cell_in samples e.1))
+    shards r.counters r.gauges r.histograms e1 e2 e3) c g h
+
+-- the cell of each series is the one that a walk finds
+pub walk-at : (cells : Cells) (seen : List Seen) → IsWalk cells seen → (s : SeriesKey) → cells s ≡ lookup (series_key_eq s) seen
+walk-at cells seen walk s = go (lookup (series_key_eq s) seen) refl (cells s) refl
+  where
+    go : (o : Option Cell) → lookup (series_key_eq s) seen ≡ o → (c : Option Cell) → cells s ≡ c → cells s ≡ lookup (series_key_eq s) seen
+    go (Some x) is c at = walk.own (s, x) (Contains-from_lookup key_exact s x seen is) ∙ sym is
+    go None is None at = at ∙ sym is
+    go None is (Some x) at = absurd (false≢true (sym (ap is_some is) ∙ IsSome-lookup_from_Contains key_laws s seen ((walk.held s).1 (ap is_some at))))
+
+-- rows that were gathered of all shards
+pub seen-gathered : (cells : Cells) (rows : List SeriesRef) → IsWalk cells (all_seen rows) → AreGathered cells rows
+seen-gathered cells rows walk =
+    let P : List SeriesKey → Type 0 = λ l. IsDistinct series_key_eq l in
+    let Q : SeriesKey → List SeriesKey → Type 0 = λ s l. Contains l s ↔ IsHeld cells s in
+    record {
+      once = subst P (firsts-shown rows) walk.once;
+      held = λ s. subst (Q s) (firsts-shown rows) (walk.held s);
+      own = λ x is. walk.own (seen_by x) (contains-map seen_by rows x is);
+    }
 
 -- the same rows in order
 pub gathered-sorted : IsTotalOrder series_key_cmp → ((a b : SeriesKey) → series_key_eq a b ≡ eq_by_cmp series_key_cmp a b)

@@ -4,7 +4,7 @@ use Rattle.std.specs.Prelude.{option_map, ◌&&◌}
 use Rattle.std.specs.List.{IsDistinct, AllByRecursion}
 use Rattle.std.specs.List.Sorted.{IsSorted, IsStrictlySortedBy}
 use Rattle.std.specs.Map.{keys_of}
-use Rattle.std.specs.Cmp.{IsTotalOrder}
+use Rattle.std.specs.Cmp.{IsTotalOrder, IsEquivalence}
 use Rattle.std.specs.Ordering.{is_lt, is_eq, ordering_reverse, eq_by_cmp}
 use Rattle.std.specs.declared.cmp.Ordering.{Ordering}
 use Rattle.std.specs.declared.cmp.Ordering.TheVariants.{Less, Equal, Greater}
@@ -48,6 +48,9 @@ flips a b = go (series_key_eq a b) (series_key_eq b a) refl refl
     go false false e f = refl
     go true false e f = absurd (false≢true (sym f ∙ (ap (series_key_eq b) (key_exact a b e) ∙ key_same b)))
     go false true e f = absurd (false≢true (sym e ∙ (ap (series_key_eq a) (key_exact b a f) ∙ key_same a)))
+
+pub key_laws : IsEquivalence series_key_eq
+key_laws = record { refl = key_same; symm = flips; congr = λ x y z e. ap (λ w. series_key_eq w z) (key_exact x y e) }
 
 and_false : (b : Bool) → (b && false) ≡ false
 and_false true = refl

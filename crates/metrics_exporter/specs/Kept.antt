@@ -7,7 +7,6 @@ use Rattle.metrics_names.specs.Names.{KeyParts, SeriesKey, key_eq}
 use Rattle.metrics_storage.specs.Histogram.{Distribution, no_samples}
 use Rattle.metrics_registry.specs.declared.generation.Counted.{Counted}
 use Rattle.metrics_registry.specs.Held.{held, Registry}
-use Rattle.metrics_registry.specs.declared.recency.OwnedRecency.{OwnedRecency}
 use Rattle.metrics_registry.specs.Recency.{Rules, Check, Table, table_answers}
 use Rattle.metrics_registry.specs.RecencyEntries.{rules_of, table_of}
 use Rattle.metrics_registry.specs.Idleness.{Answered, run_answers}
@@ -17,7 +16,6 @@ use Rattle.metrics_exporter.specs.Choice.{bounds_in}
 use Rattle.metrics_descriptions.specs.Legends.{Legend, described_by}
 use Rattle.metrics_exporter.specs.Exporting.{Setup, Log, Step, steps, count, level, samples, Cell, Cells, cells_after, checks_in}
 use Rattle.metrics_exporter.specs.Gathering.{cell_in}
-use Rattle.metrics_exporter.specs.Stepping.{cells_without, notes_without}
 
 -- the cells of the series
 abbrev pub SeriesRegistry : Type 0
@@ -62,13 +60,6 @@ pub record Keeps (setup : Setup) (xs : List Step) (e : Exporter) : Type 0 where
   pub rules : rules_of e.recency ≡ setup.rules
   pub cells : (s : SeriesKey) → cells_of e.registry s ≡ cells_after setup xs s
   pub checks : AnswersAfter setup.rules (table_of key_eq e.recency) (checks_in xs)
-
--- a registry and notes are the result of these steps once these series are removed from both
-pub record KeepsBut (gone : List SeriesKey) (setup : Setup) (xs : List Step) (r : SeriesRegistry) (notes : OwnedRecency KeyParts) : Type 0 where
-  pub bounds : HasBounds r setup
-  pub rules : rules_of notes ≡ setup.rules
-  pub cells : (s : SeriesKey) → cells_without gone (cells_of r) s ≡ cells_after setup xs s
-  pub checks : AnswersAfter setup.rules (notes_without gone (table_of key_eq notes)) (checks_in xs)
 
 -- an exporter of this setup is as after these calls
 abbrev pub IsAfter : Setup → Log → Exporter → Type 0

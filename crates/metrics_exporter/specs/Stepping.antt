@@ -1,6 +1,8 @@
--- One update and one check of what an exporter keeps.
-use Rattle.std.specs.Prelude.{if◌then◌else◌, ◌≡◌, ℕ, ◌+◌, ◌-◌, nat_lt, true, false, ◌%◌, ◌^◌, ℤ, pos, Bool, not, ◌&&◌, List, [], ◌∷◌, ◌++◌, Option, None, Some, Result, Ok, Err}
-use Rattle.std.specs.List.{list_any}
+-- One update of what an exporter keeps, and the checks of one expiry.
+use Rattle.std.specs.Prelude.{if◌then◌else◌, ◌≡◌, ℕ, ◌+◌, ◌-◌, nat_lt, true, false, ◌%◌, ◌^◌, ℤ, pos, Bool, not, ◌&&◌, List, [], ◌∷◌, Option, None, Some, Result, Ok, Err, is_some}
+use Rattle.std.specs.List.{filter, AllByRecursion, IsDistinct}
+use Rattle.std.specs.Set.{is_member}
+use Rattle.std.specs.Map.{keys_of}
 use Rattle.metrics_names.specs.declared.kind.MetricKind.{MetricKind}
 use Rattle.metrics_names.specs.declared.kind.MetricKind.TheVariants.{Counter, Gauge, Histogram}
 use Rattle.metrics_names.specs.Names.{KeyParts, SeriesKey, key_eq, series_key_eq}
@@ -12,9 +14,13 @@ use Rattle.metrics.specs.Cells.{count_with, level_with}
 use Rattle.metrics_storage.specs.Histogram.{Distribution, with_samples}
 use Rattle.metrics_registry.specs.declared.generation.Counted.{Counted}
 use Rattle.metrics_registry.specs.Held.{held, Sets}
-use Rattle.metrics_registry.specs.Recency.{Rules, Check, Table, table_answer, table_after}
-use Rattle.metrics_exporter.specs.Exporting.{Reading, count, level, samples, Cell, Cells}
-use Rattle.metrics_exporter.specs.Gathering.{series_at}
+use Rattle.metrics_registry.specs.declared.recency.Noted.{Noted}
+use Rattle.metrics_registry.specs.Recency.{Rules, Check, Table, check_step, table_answer, glance, rechecked}
+use Rattle.metrics_registry.specs.RecencyEntries.{check_of, rules_of, table_of}
+use Rattle.metrics_registry.specs.declared.recency.OwnedRecency.{OwnedRecency}
+use Rattle.metrics_exporter.specs.declared.expiring.Found.{Found}
+use Rattle.metrics_exporter.specs.Exporting.{Reading, count, level, samples, Cell, Cells, check_of_held}
+use Rattle.metrics_exporter.specs.Gathering.{series_at, Seen, all_seen}
 
 -- ---- an update
 
@@ -91,25 +97,59 @@ TakesUpdate cell = cell_has_room cell ≡ true
 abbrev pub RefusesUpdate : Option Cell → Error → Type 0
 RefusesUpdate cell e = e ≡ (if cell_has_room cell then Memory else CountFull)
 
--- ---- a check
-
--- a check's result is the table's, and it notes what the table does; if the result is false the cell of its series is gone,
--- and no other cell changed
-pub record ChecksCells (rules : Rules) (check : Check KeyParts) (s : SeriesKey) (old_table new_table : Table KeyParts) (old new : Cells) (stays : Bool) : Type 0 where
-  pub answer : stays ≡ table_answer rules check old_table
-  pub notes : (kind : MetricKind) (key : KeyParts) → new_table kind key ≡ table_after key_eq rules check old_table kind key
-  pub cells : (t : SeriesKey) → new t ≡ (if not stays && series_key_eq s t then None else old t)
-
--- a check whose result is true is noted; if it is false its series is added to the idle ones
-pub record NotesOrAdds (rules : Rules) (check : Check KeyParts) (s : SeriesKey) (old_table new_table : Table KeyParts) (old_idle new_idle : List SeriesKey) : Type 0 where
-  pub notes : (kind : MetricKind) (key : KeyParts) → new_table kind key ≡ (if table_answer rules check old_table then table_after key_eq rules check old_table kind key else old_table kind key)
-  pub idle : new_idle ≡ (if table_answer rules check old_table then old_idle else old_idle ++ s ∷ [])
-
--- ---- without some series
+-- ---- checks
 
 -- whether a series is one of these
 abbrev pub is_among : List SeriesKey → SeriesKey → Bool
-is_among gone s = list_any (λ t. series_key_eq t s) gone
+is_among gone s = is_member series_key_eq gone s
+
+abbrev pub check_seen : ℕ → Seen → Check KeyParts
+check_seen now x = check_of x.0.kind x.0.key x.1.generation now true
+
+-- the check of a series finds it idle
+abbrev pub is_idle : Rules → ℕ → Table KeyParts → Seen → Bool
+is_idle rules now table x = not (table_answer rules (check_seen now x) table)
+
+-- it adds a note
+abbrev pub is_new : Rules → ℕ → Table KeyParts → Seen → Bool
+is_new rules now table x = not (is_some (glance rules (check_seen now x) (table x.0.kind x.0.key)))
+
+-- none of these is noted
+abbrev pub AreUnnoted : Table KeyParts → List Seen → Type 0
+AreUnnoted table walk = AllByRecursion (λ x. table x.0.kind x.0.key ≡ None) walk
+
+-- the idle series of a walk were found, and those that are new
+abbrev pub AreFound : Rules → ℕ → Table KeyParts → List Seen → Found → Type 0
+AreFound rules now table walk found =
+    (found.idle.items ≡ keys_of (filter (is_idle rules now table) walk)) × (all_seen found.unnoted.items ≡ filter (is_new rules now table) walk)
+
+-- what a check makes of the note of its series
+abbrev pub Change : Type 0
+Change = Check KeyParts → Option Noted → Option Noted
+
+abbrev pub table_with : Change → ℕ → Seen → Table KeyParts → Table KeyParts
+table_with change now x table kind key = if series_key_eq x.0 (series_at kind key) then change (check_seen now x) (table x.0.kind x.0.key) else table kind key
+
+-- the same of one series after another
+abbrev pub table_with_all : Change → ℕ → List Seen → Table KeyParts → Table KeyParts
+table_with_all change now [] table = table
+table_with_all change now (x ∷ walk) table = table_with_all change now walk (table_with change now x table)
+
+-- each series of a walk was checked, unless that adds a note
+abbrev pub Rechecks : ℕ → List Seen → OwnedRecency KeyParts → OwnedRecency KeyParts → Type 0
+Rechecks now walk old new = (rules_of new ≡ rules_of old) × (table_of key_eq new ≡ table_with_all (rechecked (rules_of old)) now walk (table_of key_eq old))
+
+-- the note after a check that removes none
+abbrev pub noted_if_kept : Rules → Change
+noted_if_kept rules c note = if (check_step rules c note).0 then (check_step rules c note).1 else note
+
+-- each held series was checked, in whatever order: these are idle, and the notes are as after all checks
+pub record AreChecked (rules : Rules) (now : ℕ) (cells : Cells) (old new : Table KeyParts) (idle : List SeriesKey) : Type 0 where
+  pub once : IsDistinct series_key_eq idle
+  pub found : (s : SeriesKey) → is_among idle s ≡ (is_some (cells s) && not (table_answer rules (check_of_held cells now s) old))
+  pub notes : (s : SeriesKey) → new s.kind s.key ≡ (if is_some (cells s) then (check_step rules (check_of_held cells now s) (old s.kind s.key)).1 else old s.kind s.key)
+
+-- ---- without some series
 
 abbrev pub cells_without : List SeriesKey → Cells → Cells
 cells_without gone cells s = if is_among gone s then None else cells s

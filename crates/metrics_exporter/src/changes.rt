@@ -1,24 +1,20 @@
-//! Updates and checks of the cells.
+//! Updates and removals of the cells.
 ghost use Rattle.std.specs.Prelude.{◌≡◌, true, ◌↔◌, ◌+◌, ◌<◌, ◌∷◌, [], pos, IsErr, Err, None};
 ghost use Rattle.std.specs.Prelude.{OnOk, IfErr, MatchResult, if◌then◌else◌};
-ghost use Rattle.metrics_names.specs.declared.kind.MetricKind.{MetricKind as AnyKind};
-ghost use Rattle.metrics_names.specs.Names.{KeyParts, SeriesKey, key_eq, series_key_eq};
+ghost use Rattle.metrics_names.specs.Names.{SeriesKey, key_eq, series_key_eq};
 ghost use Rattle.metrics.specs.declared.error.Error.TheVariants.{Memory as OutOfMemory, CountFull};
 ghost use Rattle.metrics_storage.specs.Histogram.{with_samples};
 ghost use Rattle.metrics_registry.specs.Held.{held, CountersAlone, GaugesAlone, HistogramsAlone};
-ghost use Rattle.metrics_registry.specs.RecencyEntries.{rules_of, table_of, check_of};
 ghost use Rattle.metrics_exporter.specs.Exporting.{series_of};
-ghost use Rattle.metrics_exporter.specs.Gathering.{series_at, series_shown, cell_shown};
 ghost use Rattle.metrics_exporter.specs.Kept.{cells_of, empty_in, KeepsSetting};
 ghost use Rattle.metrics_exporter.specs.Describing.{unit_from};
 ghost use Rattle.metrics.specs.Cells.{count_with, level_with};
 ghost use Rattle.metrics_exporter.specs.Stepping.{counted_with, has_room, TakesSample, UpdatesEntry, UpdatesCells};
-ghost use Rattle.metrics_exporter.specs.Stepping.{TakesUpdate, RefusesUpdate, NotesOrAdds};
+ghost use Rattle.metrics_exporter.specs.Stepping.{TakesUpdate, RefusesUpdate};
 
 use crate::cells::{CountedCells, UnitSource};
-use crate::series::SeriesRef;
 use metrics::{CompositeKey, Error, Key, MetricKind, Update};
-use metrics_registry::{Counted, OwnedRecency, OwnedRegistry};
+use metrics_registry::{Counted, OwnedRegistry};
 use metrics_storage::Histogram;
 
 fn update_counter(
@@ -126,46 +122,16 @@ pub(crate) fn update_cells(
     }
 }
 
-/// Checks a series with its generation. One that is idle comes to the end of the idle ones, and is neither noted nor removed.
-pub(crate) fn check_series(
-    recency: &mut OwnedRecency<Key>,
-    series: &SeriesRef<'_>,
-    now: u64,
-    idle: &mut Vec<CompositeKey>,
-) -> Result<(), Error>
-    ensures rules { rules_of recency.new ≡ rules_of recency.old }
-    ensures ok { OnOk result (NotesOrAdds (rules_of recency.old)
-        (check_of series.now.kind series.now.key.now (cell_shown series.now.cell).generation now true) (series_shown series.now)
-        (table_of key_eq recency.old) (table_of key_eq recency.new) idle.old.items idle.new.items) }
-    ensures err { IfErr result (λ e. (e ≡ OutOfMemory) × (idle.new.items ≡ idle.old.items)
-        × ((kind : AnyKind) (key : KeyParts) → table_of key_eq recency.new kind key ≡ table_of key_eq recency.old kind key)) }
-{
-    if recency.note(series.kind, series.key, series.cell.generation(), now)? {
-        return Ok(());
-    }
-    idle.push(CompositeKey::new(series.kind, series.key.clone()?))?;
-    Ok(())
-}
-
-/// Removes a series and its note.
-pub(crate) fn remove_series(
-    registry: &mut OwnedRegistry<Key, CountedCells>,
-    recency: &mut OwnedRecency<Key>,
-    series: &CompositeKey,
-)
-    ensures rules { rules_of recency.new ≡ rules_of recency.old }
-    ensures notes { (kind : AnyKind) (key : KeyParts) → table_of key_eq recency.new kind key
-        ≡ (if series_key_eq series.now (series_at kind key) then None else table_of key_eq recency.old kind key) }
+/// Removes a series, and leaves its note.
+pub(crate) fn remove_series(registry: &mut OwnedRegistry<Key, CountedCells>, series: &CompositeKey)
     ensures cells { (s : SeriesKey) → cells_of registry.new s
         ≡ (if series_key_eq series.now s then None else cells_of registry.old s) }
     ensures storage { KeepsSetting registry.old registry.new }
 {
     let key = series.key();
-    let kind = series.kind();
-    match kind {
+    match series.kind() {
         MetricKind::Counter => registry.delete_counter(key),
         MetricKind::Gauge => registry.delete_gauge(key),
         MetricKind::Histogram => registry.delete_histogram(key),
     };
-    recency.forget(kind, key);
 }

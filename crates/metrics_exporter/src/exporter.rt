@@ -6,10 +6,10 @@ ghost use Rattle.metrics.specs.declared.error.Error.TheVariants.{Memory as OutOf
 ghost use Rattle.metrics.specs.declared.error.Error.TheVariants.{NoBounds as WithoutBounds, CountFull as Full};
 ghost use Rattle.metrics.specs.Layers.{mask_has};
 ghost use Rattle.metrics_names.specs.declared.common.Unit.{Unit as Measure};
-ghost use Rattle.metrics_names.specs.Names.{KeyParts};
+ghost use Rattle.metrics_names.specs.Names.{KeyParts, SeriesKey};
 ghost use Rattle.metrics_registry.specs.Held.{is_shard_count as is_count};
 ghost use Rattle.metrics_registry.specs.Idleness.{Answered};
-ghost use Rattle.metrics_exporter.specs.Exporting.{Setup, Log, Step, updates, expires, steps, IsFull, IsExpiry, IsHeldNumber};
+ghost use Rattle.metrics_exporter.specs.Exporting.{Setup, Log, updates, expires, steps, IsFull, IsExpiry, IsHeldNumber};
 ghost use Rattle.metrics_exporter.specs.Exporting.{updates_in, cells_after, series_of, HoldsSome};
 ghost use Rattle.metrics_exporter.specs.Gathering.{series_at};
 ghost use Rattle.metrics.specs.Book.{no_description};
@@ -22,7 +22,7 @@ use crate::bounds::Bounds;
 use crate::cells::{CountedCells, UnitSource};
 use crate::changes::{remove_series, update_cells};
 use crate::expiring::check_all;
-use crate::keys::{held_number, held_series, is_held, sorted_series};
+use crate::keys::{held_number, held_series, is_held, key_order, sorted_series};
 use crate::lines::write_series;
 use crate::series::SeriesRef;
 use metrics::{CompositeKey, Error, Key, MetricKind, MetricKindMask, Unit, Update};
@@ -40,7 +40,8 @@ pub struct Exporter {
 }
 
 impl Exporter {
-    ghost use Rattle.metrics_exporter.specs.Kept.{IsAfter, Keeps, KeepsBut, held_cells, described};
+    ghost use Rattle.metrics_exporter.specs.Kept.{IsAfter, held_cells, described, KeepsSetting};
+    ghost use Rattle.metrics_exporter.specs.Stepping.{cells_without};
     ghost use Rattle.metrics_exporter.specs.Choice.{bounds_in};
 
     /// Makes an exporter without series. Its registry has so many shards, a power of two from 1 to 1,024. Its histograms count
@@ -163,6 +164,9 @@ impl Exporter {
     ///
     /// If it fails, the first n of these checks were made, and what they removed is gone. It never fails after the last check,
     /// nor if no series is held. Without a timeout it looks at no series.
+    ///
+    /// It doesn't sort the series: of all checks together the order can't be seen, and where one would be refused it makes none.
+    /// It allocates only for series that are idle, or that it sees for the first time.
     pub fn expire(&mut self, now: u64) -> Result<usize, Error>
         ensures expired { (setup : Setup) (log : Log) → IsAfter setup log self.old →
             (checks : List (Answered KeyParts)) × IsExpiry setup (steps log) now checks result
@@ -170,27 +174,27 @@ impl Exporter {
         ensures shards { self.new.registry.count ≡ self.old.registry.count }
         ensures descriptions { described self.new ≡ described self.old }
     {
-        let mut idle = Vec::new(self.alloc);
-        let removed = check_all(
-            self.alloc,
-            &self.registry,
-            &mut self.recency,
-            now,
-            &mut idle,
-        );
+        key_order();
+        let held = held_number(&self.registry);
+        if held == 0 {
+            return Ok(0);
+        }
+        if !self.recency.has_timeout() {
+            return Ok(0);
+        }
+        let idle = check_all(self.alloc, &self.registry, &mut self.recency, now)?;
         self.remove_all(&idle);
-        removed
+        Ok(idle.len())
     }
 
-    /// Removes series and their notes.
+    /// Removes series, and leaves their notes.
     fn remove_all(&mut self, idle: &[CompositeKey])
-        ensures kept { (setup : Setup) (xs : List Step) → KeepsBut idle.now setup xs self.old.registry self.old.recency
-            → Keeps setup xs self.new }
-        ensures shards { self.new.registry.count ≡ self.old.registry.count }
-        ensures descriptions { self.new.descriptions ≡ self.old.descriptions }
+        ensures cells { (s : SeriesKey) → held_cells self.new s ≡ cells_without idle.now (held_cells self.old) s }
+        ensures storage { KeepsSetting self.old.registry self.new.registry }
+        ensures rest { (self.new.recency ≡ self.old.recency) × (self.new.descriptions ≡ self.old.descriptions) }
     {
         for series in idle {
-            remove_series(&mut self.registry, &mut self.recency, series);
+            remove_series(&mut self.registry, series);
         }
     }
 

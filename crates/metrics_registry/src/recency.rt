@@ -40,12 +40,7 @@ fn stays(note: &Noted, timeout: u64, seen: Noted) -> bool
 
 /// Checks a key of a watched kind, whether it is held or not, as long as this adds no note: one that isn't noted stays so. One
 /// that goes is no longer noted.
-fn recheck<K: Hash + Drop>(
-    noted: &mut HashMap<K, Noted>,
-    timeout: u64,
-    key: &K,
-    seen: Noted,
-)
+fn recheck<K: Hash + Drop>(noted: &mut HashMap<K, Noted>, timeout: u64, key: &K, seen: Noted)
     ensures { (q : K) → get K.eq noted.new q ≡ (if is_some (get K.eq noted.old q) && K.eq key.now q
         then (watch_step (Some timeout) seen true (get K.eq noted.old key.now)).1 else get K.eq noted.old q) }
 {
@@ -303,13 +298,7 @@ impl<K: Hashable + EqualClone + Drop> OwnedRecency<K> {
     }
 
     /// Returns what `note` would answer, or `None` if it would add a note. It notes nothing.
-    pub fn peek(
-        &self,
-        kind: MetricKind,
-        key: &K,
-        generation: Generation,
-        now: u64,
-    ) -> Option<bool>
+    pub fn peek(&self, kind: MetricKind, key: &K, generation: Generation, now: u64) -> Option<bool>
         ensures { result ≡ glance (rules_of self.now) (check_of kind key.now generation now true)
             (table_of K.eq self.now kind key.now) }
     {

@@ -18,16 +18,13 @@ use Rattle.metrics_exporter.specs.Gathering.{series_at}
 use Rattle.metrics_descriptions.specs.Legends.{Legend}
 use Rattle.metrics_exporter.specs.Readings.{KeyedReading, AreReadings, reading_in, keyed_reading, keyed_readings}
 use Rattle.metrics_exporter.specs.declared.readings.SeriesReading.{SeriesReading}
-use Rattle.metrics_exporter.proofs.SortedLemmas.{flips}
+use Rattle.metrics_exporter.proofs.SortedLemmas.{flips, key_laws}
 use Rattle.metrics_exposition.specs.declared.naming.Naming.{Naming}
 use Rattle.metrics_prometheus.specs.Exposition.{IsScaled}
 use Rattle.metrics_prometheus.specs.LeftOut.{left_out_number}
 use Rattle.tool_prometheus.specs.Own.{Own, own_key, own_counter, own_gauge, own_moment, own_series, own_places, with_series, with_own, IsExposedOwn, IsShown}
 
 -- ---- keys
-
-pub key_laws : IsEquivalence series_key_eq
-key_laws = record { refl = key_same; symm = flips; congr = λ x y z e. ap (λ w. series_key_eq w z) (key_exact x y e) }
 
 -- two tests of one fact
 same-test : {P Q : Type 0} (a b : Bool) → Decides a P → Decides b Q → (P → Q) → (Q → P) → a ≡ b

@@ -1,64 +1,34 @@
-use Rattle.std.proofs.Common.{rules, ◌≡◌, ◌∙◌, ℕ, List, length, false, Result, Ok, sym, subst, ap, arith}
-use Rattle.std.specs.Cmp.{IsTotalOrder}
-use Rattle.std.specs.Ordering.{is_eq}
-use Rattle.metrics_names.specs.contracts.key.CompositeKeyOrd.TheImpl.Laws.{total-law, matches_eq-law}
-use Rattle.metrics.specs.declared.error.Error.{Error}
-use Rattle.metrics_exporter.specs.declared.series.SeriesRef.{SeriesRef}
-use Rattle.metrics_exporter.specs.Gathering.{AreSeen}
+use Rattle.std.proofs.Common.{◌≡◌, ◌∙◌, List, ap, sym, subst}
+use Rattle.std.specs.List.{filter}
+use Rattle.metrics_names.specs.Names.{SeriesKey, key_eq}
+use Rattle.metrics_registry.specs.Recency.{rechecked}
+use Rattle.metrics_registry.specs.RecencyEntries.{rules_of, table_of}
+use Rattle.metrics_exporter.specs.Gathering.{Seen, all_seen, walk_of, IsWalk}
 use Rattle.metrics_exporter.specs.Kept.{cells_of}
-use Rattle.metrics_exporter.proofs.ExpiryLemmas.{Checked, front-none, front-more, checked-all, checked-front, checked-none, err-result}
-use Rattle.metrics_exporter.proofs.SortedLemmas.{held-by-all}
-use Rattle.metrics_exporter.proofs.UnwatchedLemmas.{unwatched, is-none}
-use Rattle.metrics_registry.specs.RecencyEntries.{rules_of}
+use Rattle.metrics_exporter.specs.Stepping.{AreChecked, AreUnnoted, is_new, noted_if_kept, table_with_all}
+use Rattle.metrics_exporter.proofs.NotingLemmas.{checked-so, new-unnoted}
+use Rattle.metrics_exporter.proofs.SeenLemmas.{walked-shards, walk-at}
 use Rattle.metrics_exporter.proofs.expiring.check_all.Goals as goal
 
-pub returns-then-not-has_timeout : goal.returns-then-not-has_timeout
-returns-then-not-has_timeout c =
-    let order = c.key_order.ensures.order in
-    let once = c.shards-shards.ensures.once in
-    let off : c.has_timeout.result ≡ false = search rules in
-    record {
-      checked = unwatched c.args.now c.args.registry.now c.args.recency.now c.args.idle.now.items _ c.requires (is-none (rules_of c.args.recency.now).timeout c.has_timeout.result c.has_timeout.ensures off)
-          (subst IsTotalOrder (λ i a b. order a b i) total-law) (λ a b. sym (c.key_order.ensures.equality a b) ∙ matches_eq-law a b ∙ ap is_eq (order a b))
-          (held-by-all c.args.registry.now once.0 once.1 once.2);
-    }
+pub note_all-requires : goal.note_all-requires
+note_all-requires c =
+    let r = c.args.recency.now in
+    let P : List Seen → Type 0 = AreUnnoted (table_of key_eq r) in
+    subst P (sym (ap all_seen c.deref.ensures.value ∙ c.in_ok-found.ensures.1)) (new-unnoted (rules_of r) c.args.now (table_of key_eq r) (walk_of c.shards-shards.result.now))
 
-pub returns-in_err-held : goal.returns-in_err-held
-returns-in_err-held c =
-    let P : Result ℕ Error → Type 0 = Checked c.args.registry.now c.args.recency.now c.args.recency.now c.args.idle.now.items c.args.now in
-    record {
-      checked = subst P (sym (err-result c.from_residual.result c.in_err-held.field-0.0 c.from_residual.ensures.1))
-          (checked-none c.args.now c.args.registry.now c.args.recency.now c.args.idle.now.items c.in_err-held.field-0.0 c.requires c.in_err-held.ensures);
-    }
-
-pub loop-series-init : goal.loop-series-init
-loop-series-init c = front-none c.args.now c.deref-series-items.result.now c.args.registry.now c.args.recency.now c.args.idle.now.items c.requires
-
-pub loop-series-preserved : goal.loop-series-preserved
-loop-series-preserved c =
-    let S : List SeriesRef → Type 0 = AreSeen (cells_of c.args.registry.now) in
-    let checked = c.in_ok-check_series.ensures in
-    front-more c.args.now c.deref-series-items.result.now c.args.registry.now c.args.recency.now c.loop-series.recency c.check_series.new.recency c.loop-series.idle.items c.check_series.new.idle.items
-    c.loop-series.series-index c.series-item.result (subst S (sym c.deref-series-items.ensures.value) c.in_ok-held.ensures) c.loop-series.invariant c.loop-series-test.true c.series-item.is checked.rules checked.ok
-
-pub returns-in_err-check_series : goal.returns-in_err-check_series
-returns-in_err-check_series c =
-    let S : List SeriesRef → Type 0 = AreSeen (cells_of c.args.registry.now) in
-    let P : Result ℕ Error → Type 0 = Checked c.args.registry.now c.args.recency.now c.check_series.new.recency c.check_series.new.idle.items c.args.now in
-    let refused = c.in_err-check_series.ensures in
-    record {
-      checked = subst P (sym (err-result c.from_residual-in_err-check_series.result c.in_err-check_series.field-0.0 c.from_residual-in_err-check_series.ensures.1))
-          (checked-front c.args.now c.deref-series-items.result.now c.args.registry.now c.args.recency.now c.loop-series.recency c.check_series.new.recency c.loop-series.idle.items c.check_series.new.idle.items
-          c.loop-series.series-index c.series-item.result c.in_err-check_series.field-0.0 (subst S (sym c.deref-series-items.ensures.value) c.in_ok-held.ensures) c.loop-series.invariant c.loop-series-test.true c.series-item.is
-          refused.rules refused.err.2 refused.err.1 refused.err.0);
-    }
-
-pub returns : goal.returns
-returns c =
-    let S : List SeriesRef → Type 0 = AreSeen (cells_of c.args.registry.now) in
-    let P : ℕ → Type 0 = λ n. Checked c.args.registry.now c.args.recency.now c.loop-series.recency c.loop-series.idle.items c.args.now (Ok n) in
-    let count : c.len-removed.result ≡ length c.loop-series.idle.items = omega (arith, c.len-removed.ensures, c.loop-series.idle.ok.0) in
-    record {
-      checked = subst P (sym count) (checked-all c.args.now c.deref-series-items.result.now c.args.registry.now c.args.recency.now c.loop-series.recency c.loop-series.idle.items c.loop-series.series-index
-          (subst S (sym c.deref-series-items.ensures.value) c.in_ok-held.ensures) c.loop-series-test.false c.loop-series.invariant);
-    }
+pub returns-clause-ok : goal.returns-clause-ok
+returns-clause-ok c =
+    let r = c.args.recency.now in
+    let registry = c.args.registry.now in
+    let e = c.note_all.new.recency in
+    let shards = c.shards-shards.result.now in
+    let s = c.shards-shards.ensures in
+    let walk = walk_of shards in
+    let is : IsWalk (cells_of registry) walk = walked-shards registry shards s.counters s.gauges s.histograms s.once.0 s.once.1 s.once.2 in
+    let new = filter (is_new (rules_of r) c.args.now (table_of key_eq r)) walk in
+    let noted : table_of key_eq e ≡ table_with_all (noted_if_kept (rules_of r)) c.args.now new (table_of key_eq r) =
+    c.in_ok-note_all.ensures.ok ∙ ap (λ l. table_with_all (noted_if_kept (rules_of r)) c.args.now l (table_of key_eq r)) (ap all_seen c.deref.ensures.value ∙ c.in_ok-found.ensures.1) in
+    let made : table_of key_eq c.recheck.new.recency ≡ table_with_all (rechecked (rules_of r)) c.args.now walk (table_with_all (noted_if_kept (rules_of r)) c.args.now new (table_of key_eq r)) =
+    c.recheck.ensures.1 ∙ ap (λ q. table_with_all (rechecked q) c.args.now walk (table_of key_eq e)) c.in_ok-note_all.ensures.rules ∙ ap (table_with_all (rechecked (rules_of r)) c.args.now walk) noted in
+    let P : List SeriesKey → Type 0 = AreChecked (rules_of r) c.args.now (cells_of registry) (table_of key_eq r) (table_of key_eq c.recheck.new.recency) in
+    subst P (sym c.in_ok-found.ensures.0) (checked-so (rules_of r) c.args.now (cells_of registry) walk (table_of key_eq r) (table_of key_eq c.recheck.new.recency) is.once (walk-at (cells_of registry) walk is) made)
