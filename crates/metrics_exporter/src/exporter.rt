@@ -160,13 +160,11 @@ impl Exporter {
         self.registry.storage().bounds()
     }
 
-    /// Checks every series that is held, in composite key order, and removes those that are idle. Returns how many.
+    /// Checks every series that is held, and removes those that are idle. Returns how many.
     ///
-    /// If it fails, the first n of these checks were made, and what they removed is gone. It never fails after the last check,
-    /// nor if no series is held. Without a timeout it looks at no series.
-    ///
-    /// It doesn't sort the series: of all checks together the order can't be seen, and where one would be refused it makes none.
-    /// It allocates only for series that are idle, or that it sees for the first time.
+    /// The checks are as if made in composite key order, and after a refusal the first n of them: it makes all or none, and of
+    /// all the order can't be seen, so it sorts no series. It never fails if no series is held. Without a timeout it looks at
+    /// none. It allocates only for series that are idle, or that it sees for the first time.
     pub fn expire(&mut self, now: u64) -> Result<usize, Error>
         ensures expired { (setup : Setup) (log : Log) → IsAfter setup log self.old →
             (checks : List (Answered KeyParts)) × IsExpiry setup (steps log) now checks result
