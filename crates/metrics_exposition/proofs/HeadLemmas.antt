@@ -42,12 +42,13 @@ labels-open l ls = ap (λ t. 123 ∷ t) (split (open_text l) (flat_map more_text
     flat n v t = simp append_assoc
 
 -- so written, one part after another
-pub labels-written : (start first second third fourth : List ℕ) (l : LabelParts) (ls : List LabelParts) → first ≡ start ++ codes "{" → second ≡ first ++ open_text l → third ≡ second ++ flat_map more_text ls → fourth ≡ third ++ codes "\"}"
-    → fourth ≡ start ++ labels_text (l ∷ ls)
-labels-written start first second third fourth l ls e f g h =
-    h ∙ ap (λ t. t ++ codes "\"}") (g ∙ ap (λ t. t ++ flat_map more_text ls) (f ∙ ap (λ t. t ++ open_text l) e)) ∙ flat start (open_text l) (flat_map more_text ls) ∙ ap (λ t. start ++ t) (labels-open l ls)
+pub labels-written : (start first second third fourth end after : List ℕ) (l : LabelParts) (ls : List LabelParts) → first ≡ start ++ codes "{" → second ≡ first ++ open_text l → third ≡ second ++ flat_map more_text ls → fourth ≡ third ++ end
+    → end ≡ codes "\"}" ++ after → fourth ≡ start ++ (labels_text (l ∷ ls) ++ after)
+labels-written start first second third fourth end after l ls e f g h i =
+    h ∙ ap (λ t. third ++ t) i ∙ ap (λ t. t ++ (codes "\"}" ++ after)) (g ∙ ap (λ t. t ++ flat_map more_text ls) (f ∙ ap (λ t. t ++ open_text l) e)) ∙ flat start (open_text l) (flat_map more_text ls)
+    ∙ ap (λ t. start ++ (t ++ after)) (labels-open l ls)
   where
-    flat : (s o m : List ℕ) → (((s ++ codes "{") ++ o) ++ m) ++ codes "\"}" ≡ s ++ 123 ∷ (o ++ (m ++ codes "\"}"))
+    flat : (s o m : List ℕ) → (((s ++ codes "{") ++ o) ++ m) ++ (codes "\"}" ++ after) ≡ s ++ (123 ∷ (o ++ (m ++ codes "\"}")) ++ after)
     flat s o m = simp append_assoc
 
 pub bucket-line : BucketLineIsThatOfItsSample

@@ -1,5 +1,5 @@
 //! The lines of samples.
-ghost use Rattle.std.specs.Prelude.{◌≡◌, ◌++◌, ◌∷◌, [], string_bytes};
+ghost use Rattle.std.specs.Prelude.{◌≡◌, ◌++◌, ◌∷◌, [], codes, string_bytes};
 ghost use Rattle.std.specs.Prelude.{IfOk, OnOk, IfErr, IsTrue, flat_map};
 ghost use Rattle.metrics.specs.declared.error.Error.TheVariants.{Memory as OutOfMemory};
 ghost use Rattle.metrics_storage.specs.Histogram.{ascending};
@@ -34,14 +34,22 @@ fn write_more(text: &mut String, labels: &[Label]) -> Result<(), AllocError>
     Ok(())
 }
 
-/// Writes labels in braces: a first one and more.
-fn write_braced(text: &mut String, first: &Label, more: &[Label]) -> Result<(), AllocError>
-    ensures { OnOk result (string_bytes text.new ≡ string_bytes text.old ++ labels_text (first.now ∷ more.now)) }
+/// Writes labels in braces, a first one and more. The end is the last quote and the brace, and perhaps a space.
+fn write_braced(
+    text: &mut String,
+    first: &Label,
+    more: &[Label],
+    end: &str,
+) -> Result<(), AllocError>
+    ensures bare { end.now ≡ codes "\"}" → OnOk result
+        (string_bytes text.new ≡ string_bytes text.old ++ labels_text (first.now ∷ more.now)) }
+    ensures spaced { end.now ≡ codes "\"} " → OnOk result
+        (string_bytes text.new ≡ string_bytes text.old ++ (labels_text (first.now ∷ more.now) ++ 32 ∷ [])) }
 {
     text.push_str("{")?;
     write_open(text, first)?;
     write_more(text, more)?;
-    text.push_str("\"}")?;
+    text.push_str(end)?;
     Ok(())
 }
 
@@ -53,7 +61,17 @@ pub fn write_labels(text: &mut String, labels: &[Label]) -> Result<(), AllocErro
 {
     match labels {
         [] => Ok(()),
-        [first, rest @ ..] => write_braced(text, first, rest),
+        [first, rest @ ..] => write_braced(text, first, rest, "\"}"),
+    }
+}
+
+/// Writes labels as `write_labels` does, and a space.
+fn write_spaced(text: &mut String, labels: &[Label]) -> Result<(), AllocError>
+    ensures { OnOk result (string_bytes text.new ≡ string_bytes text.old ++ (labels_text labels.now ++ 32 ∷ [])) }
+{
+    match labels {
+        [] => text.push_str(" "),
+        [first, rest @ ..] => write_braced(text, first, rest, "\"} "),
     }
 }
 
@@ -76,8 +94,7 @@ pub fn write_sample(
     if !end.is_empty() {
         text.push_str(end)?;
     }
-    write_labels(text, labels)?;
-    text.push_str(" ")?;
+    write_spaced(text, labels)?;
     write_number(text, places, value)?;
     text.push_str("\n")
 }
