@@ -4,7 +4,7 @@ use Rattle.std.specs.Prelude.{flat_map}
 use Rattle.metrics_names.specs.Names.{LabelParts}
 use Rattle.metrics_exposition.specs.Names.{escaped}
 use Rattle.metrics_exposition.specs.Numbers.{number}
-use Rattle.metrics_exposition.specs.Samples.{label_text, joined, labels_text, sample_line, lines, bucket_sample}
+use Rattle.metrics_exposition.specs.Samples.{label_text, joined, labels_text, lines, bucket_sample}
 use Rattle.metrics_exposition.specs.Heads.{open_text, more_text, with_commas, bucket_head, bucket_line, BucketLineIsThatOfItsSample}
 
 -- labels with a last one: a comma is before each, or after

@@ -9,7 +9,7 @@ use Rattle.metrics_exposition.specs.Labels.{AreReady}
 
 abbrev pub bytes_in : NameText → List ℕ
 bytes_in (GivenName key) = key.now.name
-bytes_in (MadeName name) = string_bytes name.value
+bytes_in (MadeName name) = string_bytes name
 
 abbrev pub labels_in : LabelList → List LabelParts
 labels_in (ReadyLabels key) = key.now.labels

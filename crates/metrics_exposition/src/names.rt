@@ -87,7 +87,7 @@ pub fn allowed_name<'a>(alloc: Global, key: &'a Key) -> Result<ShownName<'a>, Al
     if is_name(key.name(), true) {
         return Ok(ShownName::given(key));
     }
-    ShownName::made(alloc, metric_name(alloc, key.name())?)
+    Ok(ShownName::made(metric_name(alloc, key.name())?))
 }
 
 /// Returns the name of a label as Prometheus allows it: as `metric_name`, without colons.

@@ -135,7 +135,7 @@ pub fn shown_name<'a>(
         Naming::Recommended => {
             let allowed = metric_name(alloc, key.name())?;
             let recommended = recommended_name(alloc, kind, unit, allowed.as_str())?;
-            ShownName::made(alloc, recommended)
+            Ok(ShownName::made(recommended))
         }
     }
 }

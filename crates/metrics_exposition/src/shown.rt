@@ -12,13 +12,12 @@ use metrics::{Key, Label};
 use std::alloc::{AllocError, Global};
 use std::cmp::Ordering;
 use std::marker::Model;
-use std::rc::Rc;
 
-/// A key with its own name, or a name that was made, which rows share.
+/// A key with its own name, or a name that was made.
 #[derive(Drop)]
 enum NameText<'a> {
     Given(&'a Key),
-    Made(Rc<String>),
+    Made(String),
 }
 
 /// A name that is shown: a key's own, or one that was made. Contracts see it as its bytes, by which names are ordered.
@@ -46,24 +45,12 @@ impl<'a> ShownName<'a> {
         }
     }
 
-    /// Returns a name that was made. Fails when out of memory.
-    pub fn made(alloc: Global, name: String) -> Result<ShownName<'a>, AllocError>
-        ensures { IfOk result (λ n. n ≡ string_bytes name) }
+    /// Returns a name that was made.
+    pub fn made(name: String) -> ShownName<'a>
+        ensures { result ≡ string_bytes name }
     {
-        Ok(ShownName {
-            name: NameText::Made(Rc::new(alloc, name)?),
-        })
-    }
-
-    /// Returns the same name, which allocates nothing: a name that was made is shared. Fails when it is shared too often.
-    pub fn shared(&self) -> Result<ShownName<'a>, AllocError>
-        ensures { IfOk result (λ n. n ≡ self.now) }
-    {
-        match &self.name {
-            NameText::Given(key) => Ok(ShownName::given(key)),
-            NameText::Made(name) => Ok(ShownName {
-                name: NameText::Made(name.clone()?),
-            }),
+        ShownName {
+            name: NameText::Made(name),
         }
     }
 
