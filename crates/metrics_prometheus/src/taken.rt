@@ -63,7 +63,8 @@ fn uses_name(histograms: &[&str], last: Option<&str>, row: &ShownRow<'_>) -> boo
     ensures { result ≡ uses_name (names_shown histograms.now) (option_map (λ n. n.now) last.entry) (row_shown row.now) }
 {
     is_fit_histogram(row)
-        && (!is_last(last, row.head.name.as_str()) && !is_part(histograms, row.head.name.as_str().as_bytes()))
+        && (!is_last(last, row.head.name.as_str())
+            && !is_part(histograms, row.head.name.as_str().as_bytes()))
 }
 
 /// The names that histograms use for their samples, in order: those of the histograms that are written.
