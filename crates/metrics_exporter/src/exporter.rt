@@ -162,13 +162,15 @@ impl Exporter {
 
     /// Checks every series that is held, and removes those that are idle. Returns how many.
     ///
-    /// The checks are as if made in composite key order, and after a refusal the first n of them: it makes all or none, and of
-    /// all the order can't be seen, so it sorts no series. It never fails if no series is held. Without a timeout it looks at
-    /// none. It allocates only for series that are idle, or that it sees for the first time.
+    /// The checks are as if made in composite key order. It makes all, whose order can't be seen, so it sorts no series; or none,
+    /// and a call that fails changes nothing. It never fails if no series is held. Without a timeout it looks at none. It
+    /// allocates only for series that are idle, or that it sees for the first time.
     pub fn expire(&mut self, now: u64) -> Result<usize, Error>
         ensures expired { (setup : Setup) (log : Log) → IsAfter setup log self.old →
             (checks : List (Answered KeyParts)) × IsExpiry setup (steps log) now checks result
             × IsAfter setup (log ++ expires now checks result ∷ []) self.new }
+        ensures refused { OnErr result
+            ((setup : Setup) (log : Log) → IsAfter setup log self.old → IsAfter setup log self.new) }
         ensures shards { self.new.registry.count ≡ self.old.registry.count }
         ensures descriptions { described self.new ≡ described self.old }
     {

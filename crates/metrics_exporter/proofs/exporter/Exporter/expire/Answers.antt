@@ -1,4 +1,5 @@
 use Rattle.std.proofs.Common.{rules, ◌≡◌, ◌<◌, ◌++◌, ◌∙◌, ℕ, false, List, [], ◌∷◌, length, Result, Err, refl, ap, sym, subst, arith}
+use Rattle.std.specs.Prelude.{OnErr}
 use Rattle.std.specs.Cmp.{IsTotalOrder}
 use Rattle.std.specs.Ordering.{is_eq}
 use Rattle.metrics_names.specs.Names.{KeyParts, SeriesKey, key_eq}
@@ -12,6 +13,7 @@ use Rattle.metrics_exporter.specs.Exporting.{Setup, Log, steps, expires, IsExpir
 use Rattle.metrics_exporter.specs.Kept.{held_cells, IsAfter}
 use Rattle.metrics_exporter.specs.Stepping.{cells_without, AreChecked}
 use Rattle.metrics_exporter.proofs.ExpiryLemmas.{expired, refused, unwatched, none-held, err-result}
+use Rattle.metrics_exporter.proofs.KeptLemmas.{keeps-same}
 use Rattle.metrics_exporter.proofs.exporter.Exporter.expire.Goals as goal
 
 pub returns-then-held-eq0-clause-expired : goal.returns-then-held-eq0-clause-expired
@@ -59,3 +61,12 @@ returns-clause-expired c =
     expired (subst IsTotalOrder (λ i x y. order x y i) total-law) (λ x y. sym (c.key_order.ensures.equality x y) ∙ matches_eq-law x y ∙ ap is_eq (order x y)) c.args.now a f idle counted.0 c.len.result counted.1 number
     (subst P (sym removed.rest.0) c.in_ok-idle.ensures.ok) removed.storage (ap rules_of removed.rest.0 ∙ c.in_ok-idle.ensures.rules)
     (λ s. removed.cells s ∙ ap (λ (l : List SeriesKey). cells_without l (held_cells a) s) c.deref.ensures.value)
+
+pub returns-in_err-idle-clause-refused : goal.returns-in_err-idle-clause-refused
+returns-in_err-idle-clause-refused c =
+    let a = c.args.self.now in
+    let f : Exporter = record { alloc = a.alloc; registry = a.registry; recency = c.check_all.new.recency; descriptions = a.descriptions } in
+    let failed = c.in_err-idle.ensures in
+    let P : Result ℕ Error → Type 0 = λ r. OnErr r ((setup : Setup) (log : Log) → IsAfter setup log a → IsAfter setup log f) in
+    subst P (sym (err-result c.from_residual.result c.in_err-idle.field-0.0 c.from_residual.ensures.1 ∙ ap Err failed.err.0))
+    (λ setup log kept. keeps-same setup (steps log) a f refl failed.rules (λ kind q. ap (λ n. n kind q) failed.err.1) kept)
