@@ -1,9 +1,10 @@
 -- Values that are written whole.
-use Rattle.std.proofs.Common.{◌≡◌, ◌∙◌, ℕ, Bool, true, false, cond, ◌&&◌, List, [], ◌∷◌, ◌++◌, codes, chars, nat_eq, refl, ap, sym, lit<}
+use Rattle.std.proofs.Common.{◌≡◌, ◌∙◌, ℕ, Bool, true, false, cond, ◌&&◌, List, [], ◌∷◌, ◌++◌, codes, chars, nat_eq, take, drop, refl, ap, sym, lit<}
 use Rattle.std.specs.Prelude.{encode_utf8, flat_map}
 use Rattle.std.specs.List.{list_all}
 use Rattle.std.specs.Str.{IsUtf8, encode_utf8_all}
 use Rattle.std.proofs.lemmas.Bool.{eqb-true}
+use Rattle.std.proofs.lemmas.List.{take-append-drop}
 use Rattle.std.proofs.lemmas.List.Folds.{list_all-append}
 use Rattle.std.proofs.lemmas.Str.{encode_ascii, encodes-chars}
 use Rattle.metrics_exposition.specs.Names.{escape, escaped, is_plain}
@@ -36,3 +37,8 @@ pub value-whole : (v : List ℕ) → IsUtf8 v → list_all is_plain v ≡ true �
 value-whole v texts h =
     let is = encodes-chars v texts in
     same-characters (chars v) (ap (list_all is_plain) is ∙ h) ∙ is
+
+-- a part of the bytes and the rest decide
+pub plain-parts : (n : ℕ) (v a b : List ℕ) → a ≡ take n v → b ≡ drop n v → list_all is_plain v ≡ (list_all is_plain a && list_all is_plain b)
+plain-parts n v a b front back =
+    ap (list_all is_plain) (sym (take-append-drop n v) ∙ ap (λ x. x ++ drop n v) (sym front) ∙ ap (λ x. a ++ x) (sym back)) ∙ list_all-append is_plain a b

@@ -116,8 +116,9 @@ fn is_unescaped(c: u8) -> bool
     c != b'\\' && c != b'"' && c != b'\n'
 }
 
-/// Returns whether each byte is written unescaped in a label's value.
-fn are_plain(bytes: &[u8]) -> bool
+/// As `are_plain`, of a few bytes.
+#[inline(always)]
+fn are_few_plain(bytes: &[u8]) -> bool
     ensures { result ≡ list_all is_plain bytes.now }
 {
     // Each byte is looked at, so that a step takes many at once.
@@ -126,6 +127,20 @@ fn are_plain(bytes: &[u8]) -> bool
         are_plain &= is_unescaped(*c);
     }
     are_plain
+}
+
+/// Returns whether each byte is written unescaped in a label's value. One step looks at 16.
+fn are_plain(bytes: &[u8]) -> bool
+    ensures { result ≡ list_all is_plain bytes.now }
+{
+    let mut rest = bytes;
+    while let Some((chunk, more)) = rest.split_first_chunk::<16>() {
+        if !are_few_plain(chunk) {
+            return false;
+        }
+        rest = more;
+    }
+    are_few_plain(rest)
 }
 
 /// Writes a label's value, escaped character by character.

@@ -1,8 +1,11 @@
--- Whether the bytes so far have no escape.
-use Rattle.std.proofs.Common.{◌≡◌, take}
+-- The bytes that are left decide.
+use Rattle.std.proofs.Common.{◌≡◌, length}
 use Rattle.std.specs.List.{list_all}
 use Rattle.metrics_exposition.specs.Names.{is_plain}
 use Rattle.metrics_exposition.proofs.names.are_plain.Given as goal
 
-abbrev pub invariant-loop-c : goal.invariant-loop-c
-invariant-loop-c l = l.are_plain ≡ list_all is_plain (take l.c-index l.bytes)
+abbrev pub invariant-loop-chunk : goal.invariant-loop-chunk
+invariant-loop-chunk l = list_all is_plain l.bytes ≡ list_all is_plain l.rest
+
+abbrev pub decreases-loop-chunk : goal.decreases-loop-chunk
+decreases-loop-chunk l = length l.rest
