@@ -5,7 +5,7 @@ use Rattle.metrics_names.specs.Names.{LabelParts}
 use Rattle.metrics_exposition.specs.Names.{escaped}
 use Rattle.metrics_exposition.specs.Numbers.{number}
 use Rattle.metrics_exposition.specs.Samples.{label_text, joined, labels_text, lines, bucket_sample}
-use Rattle.metrics_exposition.specs.Heads.{open_text, more_text, with_commas, bucket_head, bucket_line, BucketLineIsThatOfItsSample}
+use Rattle.metrics_exposition.specs.Heads.{open_text, more_text, sample_head, headed_line, HeadedLineIsThatOfItsSample, with_commas, bucket_head, bucket_line, BucketLineIsThatOfItsSample}
 
 -- labels with a last one: a comma is before each, or after
 commas-more : (ls : List LabelParts) (x : LabelParts) → flat_map (λ m. 44 ∷ label_text m) (ls ++ x ∷ []) ≡ 44 ∷ joined (ls ++ x ∷ [])
@@ -50,6 +50,15 @@ labels-written start first second third fourth end after l ls e f g h i =
   where
     flat : (s o m : List ℕ) → (((s ++ codes "{") ++ o) ++ m) ++ (codes "\"}" ++ after) ≡ s ++ (123 ∷ (o ++ (m ++ codes "\"}")) ++ after)
     flat s o m = simp append_assoc
+
+pub headed-line : HeadedLineIsThatOfItsSample
+headed-line name l more value =
+    flat name l.0 (escaped l.1) (flat_map more_text more) (codes "\"}") value
+    ∙ ap (λ t. name ++ (t ++ 32 ∷ (value ++ 10 ∷ []))) (labels-open l more)
+  where
+    flat : (n k v m e t : List ℕ)
+        → (n ++ (123 ∷ (k ++ codes "=\""))) ++ (v ++ (m ++ ((e ++ 32 ∷ []) ++ (t ++ 10 ∷ [])))) ≡ n ++ ((123 ∷ ((k ++ (codes "=\"" ++ v)) ++ (m ++ e))) ++ 32 ∷ (t ++ 10 ∷ []))
+    flat n k v m e t = simp append_assoc
 
 pub bucket-line : BucketLineIsThatOfItsSample
 bucket-line name labels bound n =

@@ -1,5 +1,5 @@
--- Labels as they are written, and the lines of a histogram's buckets, which begin alike.
-use Rattle.std.specs.Prelude.{ℕ, List, ◌≡◌, ◌++◌, flat_map, codes, decimal}
+-- Labels as they are written, and lines that begin alike: those of a histogram's buckets, and of samples with one first label's key.
+use Rattle.std.specs.Prelude.{ℕ, List, ◌∷◌, ◌≡◌, ◌++◌, flat_map, codes, decimal}
 use Rattle.metrics_names.specs.Names.{LabelParts}
 use Rattle.metrics_exposition.specs.Names.{escaped}
 use Rattle.metrics_exposition.specs.Samples.{sample_line, bucket_sample}
@@ -15,6 +15,18 @@ more_text l = codes "\"," ++ open_text l
 -- labels with a comma after each
 abbrev pub with_commas : List LabelParts → List ℕ
 with_commas labels = flat_map (λ l. open_text l ++ codes "\",") labels
+
+-- NAME{KEY=": what comes before the value of a sample's first label
+abbrev pub sample_head : List ℕ → List ℕ → List ℕ
+sample_head name key = name ++ (codes "{" ++ (key ++ codes "=\""))
+
+-- the line of a sample after its head, with the first label's value and more labels, which is that of its sample
+abbrev pub headed_line : List ℕ → List ℕ → List LabelParts → List ℕ → List ℕ
+headed_line head first more value = head ++ (escaped first ++ (flat_map more_text more ++ (codes "\"} " ++ (value ++ codes "\n"))))
+
+abbrev pub HeadedLineIsThatOfItsSample : Type 0
+HeadedLineIsThatOfItsSample = (name : List ℕ) (l : LabelParts) (more : List LabelParts) (value : List ℕ)
+    → headed_line (sample_head name l.0) l.1 more value ≡ sample_line (record { name = name; labels = l ∷ more; value = value })
 
 -- NAME_bucket{LABELS,le=": what comes before a bucket's bound
 abbrev pub bucket_head : List ℕ → List LabelParts → List ℕ

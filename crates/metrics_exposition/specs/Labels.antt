@@ -66,6 +66,10 @@ abbrev pub follows : Option (List ℕ) → List LabelParts → Bool
 follows last [] = false
 follows last (l ∷ ls) = is_last last l.0 || follows (Some l.0) ls
 
+abbrev pub first_key : List LabelParts → List ℕ
+first_key [] = []
+first_key (l ∷ ls) = l.0
+
 abbrev pub first_value : List LabelParts → List ℕ
 first_value [] = []
 first_value (l ∷ ls) = l.1

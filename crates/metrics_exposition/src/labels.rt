@@ -5,7 +5,7 @@ ghost use Rattle.std.specs.Cmp.Lexicographic.{pointwise};
 ghost use Rattle.std.specs.Str.{IsUtf8};
 ghost use Rattle.metrics.specs.declared.error.Error.TheVariants.{Memory as OutOfMemory};
 ghost use Rattle.metrics_names.specs.Names.{label_eq, label_cmp};
-ghost use Rattle.metrics_exposition.specs.Labels.{placed, added, shown_labels, is_whole};
+ghost use Rattle.metrics_exposition.specs.Labels.{placed, added, shown_labels, is_whole, first_key};
 ghost use Rattle.metrics_exposition.specs.Labels.{first_value, repeats, is_last, is_reserved, reserved_of, are_fit, AreReady};
 
 use crate::names::{is_name, label_name};
@@ -13,6 +13,16 @@ use crate::shown::ShownLabels;
 use metrics::{Error, Key, Label, MetricKind};
 use metrics_names::{are_sorted, is_before};
 use std::alloc::Global;
+
+/// Returns the key of the first label, and an empty text if there is none.
+pub fn first_key(labels: &[Label]) -> &str
+    ensures { result.now ≡ first_key labels.now }
+{
+    match labels {
+        [] => "",
+        [first, ..] => first.key(),
+    }
+}
 
 /// Returns the value of the first label, and an empty text if there is none.
 pub fn first_value(labels: &[Label]) -> &str

@@ -6,7 +6,8 @@ ghost use Rattle.metrics_storage.specs.Histogram.{ascending};
 ghost use Rattle.metrics_exposition.specs.Numbers.{number};
 ghost use Rattle.metrics_exposition.specs.Samples.{labels_text, sample_line, lines};
 ghost use Rattle.metrics_exposition.specs.Samples.{histogram_samples};
-ghost use Rattle.metrics_exposition.specs.Heads.{open_text, more_text, with_commas, bucket_head, bucket_line};
+ghost use Rattle.metrics_exposition.specs.Heads.{open_text, more_text, sample_head, headed_line};
+ghost use Rattle.metrics_exposition.specs.Heads.{with_commas, bucket_head, bucket_line};
 
 use crate::names::write_value;
 use crate::numbers::{write_count, write_number};
@@ -95,6 +96,41 @@ pub fn write_sample(
         text.push_str(end)?;
     }
     write_spaced(text, labels)?;
+    write_number(text, places, value)?;
+    text.push_str("\n")
+}
+
+/// Writes what the line of a sample begins with: its name and its first label's key, up to that label's value.
+///
+/// Fails when out of memory, after a part of it.
+pub fn write_sample_head(text: &mut String, name: &str, key: &str) -> Result<(), AllocError>
+    ensures { OnOk result (string_bytes text.new ≡ string_bytes text.old ++ sample_head name.now key.now) }
+{
+    text.push_str(name)?;
+    text.push_str("{")?;
+    text.push_str(key)?;
+    text.push_str("=\"")
+}
+
+/// Writes the line of a sample after a head that `write_sample_head` wrote: the value of its first label, more labels, and the
+/// sample's value as `write_sample` writes it.
+///
+/// Fails when out of memory, after a part of the line.
+pub fn write_headed_sample(
+    text: &mut String,
+    head: &str,
+    first: &str,
+    more: &[Label],
+    places: u16,
+    value: i128,
+) -> Result<(), AllocError>
+    ensures { OnOk result (string_bytes text.new
+        ≡ string_bytes text.old ++ headed_line head.now first.now more.now (number places value)) }
+{
+    text.push_str(head)?;
+    write_value(text, first)?;
+    write_more(text, more)?;
+    text.push_str("\"} ")?;
     write_number(text, places, value)?;
     text.push_str("\n")
 }
