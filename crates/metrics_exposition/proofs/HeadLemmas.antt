@@ -5,7 +5,7 @@ use Rattle.metrics_names.specs.Names.{LabelParts}
 use Rattle.metrics_exposition.specs.Names.{escaped}
 use Rattle.metrics_exposition.specs.Numbers.{number}
 use Rattle.metrics_exposition.specs.Samples.{label_text, joined, labels_text, lines, bucket_sample}
-use Rattle.metrics_exposition.specs.Heads.{open_text, more_text, sample_head, headed_line, HeadedLineIsThatOfItsSample, with_commas, bucket_head, bucket_line, BucketLineIsThatOfItsSample}
+use Rattle.metrics_exposition.specs.Heads.{open_text, more_text, HeadedLineIsThatOfItsSample, with_commas, bucket_head, bucket_line, BucketLineIsThatOfItsSample}
 
 -- labels with a last one: a comma is before each, or after
 commas-more : (ls : List LabelParts) (x : LabelParts) → flat_map (λ m. 44 ∷ label_text m) (ls ++ x ∷ []) ≡ 44 ∷ joined (ls ++ x ∷ [])

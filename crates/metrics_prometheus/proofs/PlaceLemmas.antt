@@ -1,6 +1,7 @@
 -- Rows in order of their places.
-use Rattle.std.proofs.Common.{◌≡◌, ◌∙◌, ◌+◌, ◌<◌, ℕ, Bool, true, false, cond, List, [], ◌∷◌, ◌++◌, map, length, get_or, take, refl, ap, sym, subst, arith}
-use Rattle.std.specs.Prelude.{IsPermutation, IsTrue}
+use Rattle.std.proofs.Common.{◌≡◌, ◌∙◌, ◌+◌, ◌<◌, ℕ, Bool, true, false, cond, List, [], ◌∷◌, ◌++◌, Option, None, Some, map, length, get_or, take, refl, ap, sym, subst, arith}
+use Rattle.std.specs.Prelude.{IsPermutation, IsTrue, IfSome}
+use Rattle.std.specs.Borrow.{Bor}
 use Rattle.std.specs.List.{AllByRecursion, All, dedup, dedup_from}
 use Rattle.std.specs.List.Sorted.{IsSorted}
 use Rattle.std.specs.Cmp.Lexicographic.{slice_cmp}
@@ -10,6 +11,7 @@ use Rattle.std.specs.declared.cmp.Ordering.TheVariants.{Less, Equal, Greater}
 use Rattle.std.proofs.lemmas.Cmp.{nat_list_cmp_total, tied_itself}
 use Rattle.std.proofs.lemmas.List.{take_more, map-append}
 use Rattle.std.proofs.lemmas.List.Elements.{All-from_recursion, recursion_from_All}
+use Rattle.std.proofs.lemmas.List.Filters.{All-dedup}
 use Rattle.std.proofs.lemmas.List.Sorted.{All-permutation}
 use Rattle.metrics_names.specs.declared.kind.MetricKind.{MetricKind}
 use Rattle.metrics_names.specs.declared.kind.MetricKind.TheVariants.{Counter, Gauge, Histogram}
@@ -19,10 +21,11 @@ use Rattle.metrics_prometheus.specs.declared.row.ShownRow.{ShownRow}
 use Rattle.metrics_prometheus.specs.declared.rows.Place.{Place}
 use Rattle.metrics_prometheus.specs.Exposition.{Row, row_cmp}
 use Rattle.metrics_prometheus.specs.Rows.{row_shown}
-use Rattle.metrics_prometheus.specs.Places.{rows_placed, place_cmp, value_placed, IsPlaced, are_led, IsLed, AreLed}
-use Rattle.metrics_prometheus.specs.Heads.{HaveOneHead}
-use Rattle.metrics_exposition.specs.Labels.{first_value}
-use Rattle.metrics_exposition.proofs.PairLemmas.{each-at, each-append, each-both}
+use Rattle.metrics_prometheus.specs.Places.{rows_placed, place_cmp, value_placed, IsPlaced, are_led, IsLed, AreLed, AreAlike, line_head}
+use Rattle.metrics_prometheus.specs.Heads.{HaveHead, HaveOneHead}
+use Rattle.metrics_exposition.specs.Labels.{first_key, first_value}
+use Rattle.metrics_exposition.specs.Heads.{sample_head}
+use Rattle.metrics_exposition.proofs.PairLemmas.{each-at, each-map, each-append, each-both}
 use Rattle.metrics_prometheus.proofs.RowLemmas.{map-length, map-get}
 use Rattle.metrics_exposition.proofs.SameLemmas.{same-bytes}
 use Rattle.metrics_exposition.proofs.OrderLemmas.{names}
@@ -144,3 +147,43 @@ placed-sorted C R places order true rows us ps are moved each heads keys up =
     let both : AllByRecursion P us = each-both (IsPlaced true) (λ p. H (f p) × L (f p)) us each (each-both (λ p. H (f p)) (λ p. L (f p)) us has keyed) in
     let known : AllByRecursion P ps = recursion_from_All P ps (All-permutation P us ps moved (All-from_recursion P us both)) in
     sorted-where f P C R (λ a b ka kb. places a b ∙ alike-cmp one.0 led.0 a b ka kb ∙ sym (order (f a) (f b))) ps known up
+
+-- rows that are alike stay so in another order, and without repeats
+pub alike-kept : (same : ShownRow → ShownRow → Bool) (rows xs ys : List ShownRow) → IsPermutation rows xs → ys ≡ dedup same xs → HaveOneHead rows → AreLed rows → AreAlike ys
+alike-kept same rows xs ys moved left one led =
+    let H : ShownRow → Type 0 = λ r. r.head.value ≡ one.0 in
+    let kept : (P : ShownRow → Type 0) → All P rows → All P ys = λ P each. subst (All P) (sym left) (All-dedup same P xs (All-permutation P rows xs moved each)) in
+    ((one.0, recursion_from_All H ys (kept H (All-from_recursion H rows one.1))), (led.0, kept (IsLed led.0) led.1))
+
+-- ---- what lines begin with
+
+first-led : (fs ls : List LabelParts) → are_led fs ls ≡ true → first_key ls ≡ first_key fs
+first-led [] ls h = absurd (let e : false ≡ true = h in cc)
+first-led (f ∷ fs) [] h = absurd (let e : false ≡ true = h in cc)
+first-led (f ∷ fs) (l ∷ ls) h = sym (same-bytes f.0 l.0 h)
+
+-- the lines of rows that are alike begin as that of one of them
+pub begun-alike : (ps : List Place) (i : ℕ) (p : Place) → i < length ps → p ≡ get_or ps i p → AreAlike (rows_placed ps) → AllByRecursion (λ q. line_head p.row.now ≡ line_head q.row.now) ps
+begun-alike ps i p small at alike =
+    let f : Place → ShownRow = λ p. p.row.now in
+    let one = alike.0 in
+    let led = alike.1 in
+    let L : ShownRow → Type 0 = λ r. line_head r ≡ sample_head one.0.name (first_key led.0) in
+    let H : ShownRow → Type 0 = λ r. r.head.value ≡ one.0 in
+    let both : AllByRecursion (λ r. H r × IsLed led.0 r) (rows_placed ps) = each-both H (IsLed led.0) (rows_placed ps) one.1 (recursion_from_All (IsLed led.0) (rows_placed ps) led.1) in
+    let all : AllByRecursion L (rows_placed ps) = each-map (λ r. H r × IsLed led.0 r) L (λ r h. ap (λ (x : Head). sample_head x.name (first_key r.labels)) h.0 ∙ ap (sample_head one.0.name) (first-led led.0 r.labels h.1)) (rows_placed ps) both in
+    let each : AllByRecursion (λ q. L (f q)) ps = each-mapped f L ps all in
+    let here : L (f p) = subst (λ q. L (f q)) (sym at) (each-at (λ q. L (f q)) ps i p each small) in
+    each-map (λ q. L (f q)) (λ q. line_head p.row.now ≡ line_head q.row.now) (λ q h. here ∙ sym h) ps each
+
+-- ---- rows of one head
+
+pub head-at : (h : Head) (ps : List Place) (i : ℕ) (p : Place) → i < length ps → p ≡ get_or ps i p → HaveHead h (rows_placed ps) → p.row.now.head.value ≡ h
+head-at h ps i p small at each =
+    let H : Place → Type 0 = λ p. p.row.now.head.value ≡ h in
+    subst H (sym at) (each-at H ps i p (each-mapped (λ p. p.row.now) (λ r. r.head.value ≡ h) ps each) small)
+
+-- the one that was written last has a row's name
+pub some-named : (h : Head) (last : Option (Bor ShownRow)) (r : ShownRow) → r.head.value ≡ h → IfSome last (λ w. w.now.head.value ≡ h) → IfSome last (λ w. w.now.head.value.name ≡ r.head.value.name)
+some-named h None r is last = tt
+some-named h (Some w) r is last = ap (λ (x : Head). x.name) (last ∙ sym is)

@@ -1,15 +1,21 @@
 -- The text of rows, one row after another.
-use Rattle.std.proofs.Common.{◌≡◌, ◌∙◌, ◌+◌, ◌-◌, ◌<◌, ◌++◌, ℕ, Bool, true, false, not, List, [], ◌∷◌, Option, Some, None, Result, Ok, Err, MatchResult, IfOk, length, get_or, take, drop, codes, nat_eq, option_map, refl, cond, ap, sym, subst, arith, append_assoc}
-use Rattle.std.specs.Prelude.{IfErr, bytes_eq}
+use Rattle.std.proofs.Common.{◌≡◌, ◌∙◌, ◌+◌, ◌-◌, ◌<◌, ◌≤◌, ◌++◌, ℕ, Bool, true, false, not, List, [], ◌∷◌, Option, Some, None, Result, Ok, Err, MatchResult, IfOk, length, get_or, take, drop, codes, nat_eq, option_map, refl, cond, ap, sym, subst, arith, append_assoc}
+use Rattle.std.specs.Prelude.{IfErr, IfSome, IsSomeAnd, MatchOption, bytes_eq}
+use Rattle.std.specs.Borrow.{Bor}
 use Rattle.std.specs.Option.{option_or}
 use Rattle.std.specs.List.{ends_with}
-use Rattle.std.proofs.lemmas.List.{at_drop_more}
+use Rattle.std.proofs.lemmas.List.{at_drop_more, take_all}
 use Rattle.metrics_exporter.specs.Exporting.{Cells}
 use Rattle.metrics_prometheus.specs.Exposition.{Row, histogram_names, found_in, part_of, part, labels_reason, name_reason, same_name_reason, last_reason, reason_of, name_lines, name_text, is_left_out, row_text, last_after, rows_text}
 use Rattle.metrics_prometheus.specs.Written.{written}
 use Rattle.metrics_prometheus.specs.declared.rows.Place.{Place}
 use Rattle.metrics_prometheus.specs.Places.{rows_placed}
 use Rattle.metrics_prometheus.specs.Rows.{row_shown, rows_shown, named}
+use Rattle.metrics_names.specs.Names.{LabelParts}
+use Rattle.metrics_exposition.specs.Labels.{first_key}
+use Rattle.metrics_exposition.specs.Samples.{sample_line}
+use Rattle.metrics_exposition.specs.Heads.{sample_head, headed_line}
+use Rattle.metrics_exposition.proofs.HeadLemmas.{headed-line}
 
 pub if-true : {A : Type 0} (b written : Bool) (x y : A) → written ≡ not b → written ≡ true → y ≡ cond b x y
 if-true true written x y is was = absurd (let e : true ≡ false = sym was ∙ is in cc)
@@ -83,6 +89,27 @@ left-more all last after xs i x n now small at is then before =
         → cond b (n + 1) n + length rest + length (written all None all) ≡ length all + length (written all (cond b last (Some row)) rest)
     by row rest true e = omega (arith, e)
     by row rest false e = omega (arith, e)
+
+-- a line that begins so is that of its sample
+pub begun-line : (head name first value : List ℕ) (ls more : List LabelParts) (x : LabelParts) → head ≡ sample_head name (first_key ls) → x ∷ more ≡ ls → first ≡ x.1
+    → headed_line head first more value ≡ sample_line (record { name = name; labels = ls; value = value })
+begun-line head name first value ls more x begun all is =
+    ap (λ h. headed_line h first more value) (begun ∙ ap (λ l. sample_head name (first_key l)) (sym all)) ∙ ap (λ v. headed_line (sample_head name x.0) v more value) is ∙ headed-line name x more value
+    ∙ ap (λ l. sample_line (record { name = name; labels = l; value = value })) all
+
+-- the first label before the others
+pub first-whole : (ls : List LabelParts) (x : LabelParts) → 1 ≤ length ls → x ≡ get_or ls 0 x → x ∷ take (length ls - 1) (drop 1 ls) ≡ ls
+first-whole [] x some at = absurd (omega (arith, some))
+first-whole (l ∷ ls) x some at =
+    let rest : length (l ∷ ls) - 1 ≡ length ls = omega arith in
+    ap (λ y. y ∷ take (length (l ∷ ls) - 1) ls) at ∙ ap (λ n. l ∷ take n ls) rest ∙ ap (λ t. l ∷ t) (take_all (length ls) ls (omega arith))
+
+-- what is known of a text that may be there, by reference
+pub shown-known : {A : Type 0} (f : A → List ℕ) (o : Option A) (s : Option (Bor (List ℕ))) (P : A → Type 0) (Q : Bor (List ℕ) → Type 0)
+    → MatchOption o (s ≡ None) (λ x. IsSomeAnd s (λ y. y.now ≡ f x)) → ((x : A) (y : Bor (List ℕ)) → y.now ≡ f x → P x → Q y) → IfSome o P → IfSome s Q
+shown-known f None s P Q h g p = subst (λ s. IfSome s Q) (sym h) tt
+shown-known f (Some x) None P Q h g p = tt
+shown-known f (Some x) (Some y) P Q h g p = g x y h p
 
 -- a result that is both
 pub either-way : {T E : Type 0} (P : T → Type 0) (Q : E → Type 0) (r : Result T E) → IfOk r P → IfErr r Q → MatchResult r P Q

@@ -9,7 +9,9 @@ use Rattle.metrics_prometheus.specs.declared.row.ShownRow.{ShownRow}
 use Rattle.metrics_prometheus.specs.declared.rows.Place.{Place}
 use Rattle.metrics_prometheus.specs.Exposition.{row_cmp}
 use Rattle.metrics_prometheus.specs.Rows.{row_shown}
-use Rattle.metrics_exposition.specs.Labels.{first_value}
+use Rattle.metrics_prometheus.specs.Heads.{HaveOneHead}
+use Rattle.metrics_exposition.specs.Labels.{first_key, first_value}
+use Rattle.metrics_exposition.specs.Heads.{sample_head}
 
 -- the rows that stand there
 abbrev pub rows_placed : List Place → List ShownRow
@@ -39,3 +41,11 @@ IsLed labels r = are_led labels r.labels ≡ true
 -- rows of one first label's key
 abbrev pub AreLed : List ShownRow → Type 0
 AreLed rows = (labels : List LabelParts) × All (IsLed labels) rows
+
+-- rows of one head and one first label's key
+abbrev pub AreAlike : List ShownRow → Type 0
+AreAlike rows = HaveOneHead rows × AreLed rows
+
+-- what the line of a row's sample begins with
+abbrev pub line_head : ShownRow → List ℕ
+line_head r = sample_head r.head.value.name (first_key r.labels)

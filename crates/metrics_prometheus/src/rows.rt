@@ -231,7 +231,7 @@ pub(crate) struct Place<'r, 'a> {
 
 ghost use Rattle.metrics_prometheus.specs.declared.rows.Place.{Place as PlaceParts};
 ghost use Rattle.metrics_prometheus.specs.Places.{rows_placed, place_cmp, value_placed, IsPlaced};
-ghost use Rattle.metrics_prometheus.specs.Places.{are_led, IsLed, AreLed};
+ghost use Rattle.metrics_prometheus.specs.Places.{are_led, IsLed, AreLed, AreAlike};
 
 /// Does nothing. Its contract says what the order of places is.
 fn place_order()
@@ -310,20 +310,22 @@ fn are_alike(rows: &[ShownRow<'_>], have_one_head: bool) -> bool
     have_one_head && have_one_key(rows)
 }
 
-/// The rows, in order. A repeated series has one row.
+/// The rows, in order, and whether they are alike: of one head and one first label's key. A repeated series has one row.
 pub(crate) fn sorted_rows<'r, 'a>(
     alloc: Global,
     rows: &'r [ShownRow<'a>],
     have_one_head: bool,
-) -> Result<Vec<Place<'r, 'a>>, AllocError>
+) -> Result<(Vec<Place<'r, 'a>>, bool), AllocError>
     requires { IsTrue have_one_head → HaveOneHead rows.now }
-    ensures { (display : Display) (keyed : List KeyedReading) → map pair_shown rows.now ≡ map (pair_of display) keyed
-        → IfOk result (λ places. AreRowsOf display keyed (rows_placed places.items)) }
+    ensures rows { (display : Display) (keyed : List KeyedReading) → map pair_shown rows.now ≡ map (pair_of display) keyed
+        → IfOk result (λ r. AreRowsOf display keyed (rows_placed r.0.items)) }
+    ensures alike { IfOk result (λ r. IsTrue r.1 → AreAlike (rows_placed r.0.items)) }
 {
-    let mut places = places_of(alloc, rows, are_alike(rows, have_one_head))?;
+    let are_alike = are_alike(rows, have_one_head);
+    let mut places = places_of(alloc, rows, are_alike)?;
     row_order();
     place_order();
     places.sort()?;
     places.dedup_by(|place, last| are_same(place.row, last.row));
-    Ok(places)
+    Ok((places, are_alike))
 }

@@ -1,6 +1,6 @@
 //! The text of the held series.
 ghost use Rattle.std.specs.Prelude.{◌≡◌, ◌<◌, ◌++◌, List, length, not, None, Some, option_map, string_bytes};
-ghost use Rattle.std.specs.Prelude.{OnOk, OnErr, IfOk, IfErr, IfSome, MatchResult, map};
+ghost use Rattle.std.specs.Prelude.{OnOk, OnErr, IfOk, IfErr, IfSome, IsTrue, MatchResult, map};
 ghost use Rattle.std.specs.List.{AllByRecursion};
 ghost use Rattle.std.specs.List.Sorted.{IsSorted};
 ghost use Rattle.std.specs.Cmp.Lexicographic.{slice_cmp};
@@ -16,11 +16,13 @@ ghost use Rattle.metrics_prometheus.specs.Exposition.{Row, row_cmp, histogram_na
 ghost use Rattle.metrics_prometheus.specs.Exposition.{help_line, type_line, name_lines, name_text};
 ghost use Rattle.metrics_prometheus.specs.Exposition.{samples_of, row_lines, rows_text};
 ghost use Rattle.metrics_prometheus.specs.Exposition.{IsExposition, IsDescribed, IsScaled};
-ghost use Rattle.metrics_prometheus.specs.Places.{rows_placed};
+ghost use Rattle.metrics_prometheus.specs.Heads.{HaveHead, HaveOneHead};
+ghost use Rattle.metrics_prometheus.specs.Places.{rows_placed, AreAlike, line_head};
 ghost use Rattle.metrics_prometheus.specs.Written.{AreLeftOut};
 ghost use Rattle.metrics_exposition.specs.Reading.{AreOfKinds};
 ghost use Rattle.metrics_prometheus.specs.Rows.{row_shown, rows_shown, Shows, names_shown, named};
-ghost use Rattle.metrics_exposition.specs.Samples.{lines};
+ghost use Rattle.metrics_exposition.specs.Numbers.{number};
+ghost use Rattle.metrics_exposition.specs.Samples.{sample_line, lines};
 
 use crate::counted::CountedText;
 use crate::reasons::{reason_of, write_left_out};
@@ -30,7 +32,8 @@ use crate::taken::histogram_names;
 use metrics::Error;
 use metrics_exporter::{Descriptions, Exporter, ReadingRef};
 use metrics_exposition::{
-    DecimalPlaces, Naming, ReadSeries, WholeNumbers, write_help_text, write_histogram, write_sample,
+    DecimalPlaces, Naming, ReadSeries, WholeNumbers, first_key, write_headed_sample,
+    write_help_text, write_histogram, write_sample, write_sample_head,
 };
 use std::alloc::{AllocError, Global};
 
@@ -67,15 +70,20 @@ fn write_name_lines(text: &mut String, row: &ShownRow<'_>) -> Result<(), AllocEr
     write_type_line(text, row)
 }
 
-/// The row that was written last, if it has a row's name.
-fn named<'w, 'r>(last: Option<&'w ShownRow<'r>>, row: &ShownRow<'_>) -> Option<&'w ShownRow<'r>>
+/// The row that was written last, if it has a row's name, as it has if all rows have one.
+fn named<'w, 'r>(
+    have_one_name: bool,
+    last: Option<&'w ShownRow<'r>>,
+    row: &ShownRow<'_>,
+) -> Option<&'w ShownRow<'r>>
+    requires { IsTrue have_one_name → IfSome last (λ w. w.now.head.value.name ≡ row.now.head.value.name) }
     ensures named { option_map (λ w. row_shown w.now) result
         ≡ named (option_map (λ w. row_shown w.now) last.entry) row.now.head.value.name }
     ensures same { IfSome result (λ w. w.now.head.value.name ≡ row.now.head.value.name) }
 {
     match last {
         Some(written) => {
-            if written.head.name == row.head.name {
+            if have_one_name || written.head.name == row.head.name {
                 Some(written)
             } else {
                 None
@@ -101,40 +109,76 @@ fn write_name(
     }
 }
 
+/// Writes the sample of a counter or a gauge, with what its line begins with, if that is at hand.
+fn write_number(
+    text: &mut String,
+    begun: Option<&str>,
+    row: &ShownRow<'_>,
+    value: i128,
+) -> Result<(), AllocError>
+    requires { IfSome begun (λ b. b.now ≡ line_head row.now) }
+    ensures { OnOk result (string_bytes text.new ≡ string_bytes text.old ++ sample_line (record {
+      name = row.now.head.value.name;
+      labels = row.now.labels;
+      value = number row.now.head.value.places value;
+    })) }
+{
+    let places = row.head.places;
+    let labels = row.labels.as_slice();
+    match (begun, labels) {
+        (Some(head), [first, more @ ..]) => {
+            write_headed_sample(text, head, first.value(), more, places, value)
+        }
+        _ => write_sample(text, row.head.name.as_str(), "", labels, places, value),
+    }
+}
+
 /// Writes the samples of a row's series.
-fn write_samples(alloc: Global, text: &mut String, row: &ShownRow<'_>) -> Result<(), Error>
+fn write_samples(
+    alloc: Global,
+    text: &mut String,
+    begun: Option<&str>,
+    row: &ShownRow<'_>,
+) -> Result<(), Error>
+    requires { IfSome begun (λ b. b.now ≡ line_head row.now) }
     ensures ok { OnOk result (string_bytes text.new ≡ string_bytes text.old
         ++ lines (samples_of (row_shown row.now) (Some (reading_shown row.now.reading)))) }
     ensures err { IfErr result (λ e. e ≡ OutOfMemory) }
 {
-    let name = row.head.name.as_str();
-    let places = row.head.places;
-    let labels = row.labels.as_slice();
     match row.reading {
         ReadingRef::Count(count) => {
-            write_sample(text, name, "", labels, places, i128::from(count))?;
+            write_number(text, begun, row, i128::from(count))?;
             Ok(())
         }
         ReadingRef::Level(level) => {
-            write_sample(text, name, "", labels, places, i128::from(level))?;
+            write_number(text, begun, row, i128::from(level))?;
             Ok(())
         }
         ReadingRef::Samples(histogram) => write_histogram(
-            alloc, text, name, labels, places, histogram,
+            alloc,
+            text,
+            row.head.name.as_str(),
+            row.labels.as_slice(),
+            row.head.places,
+            histogram,
         ),
     }
 }
 
-/// Writes a row, or that it is left out. Returns whether it was written.
+/// Writes a row, or that it is left out. What its line begins with is at hand if all rows are alike. Returns whether it was
+/// written.
 fn write_row(
     alloc: Global,
     text: &mut String,
     histograms: &[&str],
+    begun: Option<&str>,
     last: Option<&ShownRow<'_>>,
     row: &ShownRow<'_>,
 ) -> Result<bool, Error>
     requires sorted { IsSorted (slice_cmp nat_cmp) (names_shown histograms.now) }
     requires labels { IsSorted label_cmp row.now.labels }
+    requires begun { IfSome begun (λ b. b.now ≡ line_head row.now) }
+    requires named { IfSome begun (λ b. IfSome last (λ w. w.now.head.value.name ≡ row.now.head.value.name)) }
     ensures ok { OnOk result ((rows : List Row) → names_shown histograms.now ≡ histogram_names rows →
         string_bytes text.new ≡ string_bytes text.old ++ row_lines (Some (reading_shown row.now.reading)) rows
         (option_map (λ w. row_shown w.now) last.entry) (row_shown row.now)) }
@@ -142,23 +186,55 @@ fn write_row(
         → written ≡ not (is_left_out rows (option_map (λ w. row_shown w.now) last.entry) (row_shown row.now))) }
     ensures err { IfErr result (λ e. e ≡ OutOfMemory) }
 {
-    let same = named(last, row);
+    let same = named(begun.is_some(), last, row);
     if let Some(reason) = reason_of(histograms, same, row) {
         write_left_out(text, row, reason)?;
         return Ok(false);
     }
     write_name(text, same, row)?;
-    write_samples(alloc, text, row)?;
+    write_samples(alloc, text, begun, row)?;
     Ok(true)
 }
 
 /// About how many bytes a row's text has, at least.
 const ROW_BYTES: usize = 48;
 
-/// The text of rows, and how many of them it leaves out.
-fn rows_text(alloc: Global, places: &[Place<'_, '_>]) -> Result<(String, usize), Error>
+/// About how many bytes the beginning of a row's line has, at most.
+const HEAD_BYTES: usize = 64;
+
+/// What the line of each row's sample begins with, if the rows are alike.
+fn begun_line(
+    alloc: Global,
+    places: &[Place<'_, '_>],
+    are_alike: bool,
+) -> Result<Option<String>, AllocError>
+    requires { IsTrue are_alike → AreAlike (rows_placed places.now) }
+    ensures begun { IfOk result (λ begun. IfSome begun (λ b. AllByRecursion (λ p. string_bytes b ≡ line_head p.row.now) places.now)) }
+    ensures head { IfOk result (λ begun. IfSome begun (λ b. HaveOneHead (rows_placed places.now))) }
+{
+    if !are_alike {
+        return Ok(None);
+    }
+    match places {
+        [] => Ok(None),
+        [first, ..] => {
+            let key = first_key(first.row.labels.as_slice());
+            let mut begun = String::with_capacity(alloc, HEAD_BYTES)?;
+            write_sample_head(&mut begun, first.row.head.name.as_str(), key)?;
+            Ok(Some(begun))
+        }
+    }
+}
+
+/// The text of rows, which may be alike, and how many of them it leaves out.
+fn rows_text(
+    alloc: Global,
+    places: &[Place<'_, '_>],
+    are_alike: bool,
+) -> Result<(String, usize), Error>
     requires sorted { IsSorted row_cmp (rows_shown (rows_placed places.now)) }
     requires labels { AllByRecursion (λ p. IsSorted label_cmp p.row.now.labels) places.now }
+    requires alike { IsTrue are_alike → AreAlike (rows_placed places.now) }
     ensures ok { (cells : Cells) → AllByRecursion (λ p. Shows cells p.row.now) places.now → IfOk result
         (λ t. string_bytes t.0
         ≡ rows_text cells (rows_shown (rows_placed places.now)) None (rows_shown (rows_placed places.now))) }
@@ -166,11 +242,13 @@ fn rows_text(alloc: Global, places: &[Place<'_, '_>]) -> Result<(String, usize),
     ensures err { IfErr result (λ e. e ≡ OutOfMemory) }
 {
     let histograms = histogram_names(alloc, places)?;
+    let line = begun_line(alloc, places, are_alike)?;
+    let begun = line.as_deref();
     let mut text = String::with_capacity(alloc, places.len().saturating_mul(ROW_BYTES))?;
     let mut left_out = 0;
     let mut last = None;
     for place in places {
-        if write_row(alloc, &mut text, &histograms, last, place.row)? {
+        if write_row(alloc, &mut text, &histograms, begun, last, place.row)? {
             last = Some(place.row);
         } else {
             left_out += 1;
@@ -210,8 +288,8 @@ pub fn counted_exposition_of<P: DecimalPlaces, S: ReadSeries>(
         });
     }
     let (rows, have_one_head) = rows_of(alloc, naming, scale, descriptions, series)?;
-    let places = sorted_rows(alloc, &rows, have_one_head)?;
-    let (text, left_out) = rows_text(alloc, &places)?;
+    let (places, are_alike) = sorted_rows(alloc, &rows, have_one_head)?;
+    let (text, left_out) = rows_text(alloc, &places, are_alike)?;
     Ok(CountedText { text, left_out })
 }
 

@@ -9,7 +9,7 @@ use Rattle.metrics_prometheus.specs.declared.row.ShownRow.{ShownRow}
 use Rattle.metrics_prometheus.specs.declared.rows.Place.{Place}
 use Rattle.metrics_descriptions.specs.Legends.{described_by}
 use Rattle.metrics_exposition.specs.Naming.{display_by}
-use Rattle.metrics_prometheus.specs.Places.{rows_placed}
+use Rattle.metrics_prometheus.specs.Places.{rows_placed, AreAlike}
 use Rattle.metrics_prometheus.specs.LeftOut.{LeavesOut}
 use Rattle.metrics_prometheus.specs.Written.{AreLeftOut}
 use Rattle.metrics_prometheus.specs.Rows.{rows_shown, pair_shown, pair_of, keyed_shown, Shows}
@@ -30,12 +30,13 @@ rows_text-requires g c =
     let display = display_by naming legend scale in
     let places = c.in_ok-places.places.items in
     let rows = rows_placed places in
-    let is = c.in_ok-places.ensures display (map g.S.ReadSeries.keyed c.args.series.now) (subst (λ (l : List ShownRow). map pair_shown l ≡ map (pair_of display) (map g.S.ReadSeries.keyed c.args.series.now)) (sym c.deref.ensures.value) c.in_ok-rows.ensures.rows) in
+    let is = c.in_ok-places.ensures.rows display (map g.S.ReadSeries.keyed c.args.series.now) (subst (λ (l : List ShownRow). map pair_shown l ≡ map (pair_of display) (map g.S.ReadSeries.keyed c.args.series.now)) (sym c.deref.ensures.value) c.in_ok-rows.ensures.rows) in
     let O : List Place → Type 0 = λ ps. IsSorted row_cmp (rows_shown (rows_placed ps)) in
     let L : List Place → Type 0 = λ ps. AllByRecursion (λ p. IsSorted label_cmp p.row.now.labels) ps in
     record {
       sorted = subst O (sym c.deref-2.ensures.value) is.ordered;
       labels = subst L (sym c.deref-2.ensures.value) (each-mapped (λ p. p.row.now) (λ r. IsSorted label_cmp r.labels) places is.labels);
+      alike = λ alike. subst (λ (ps : List Place). AreAlike (rows_placed ps)) (sym c.deref-2.ensures.value) (c.in_ok-places.ensures.alike alike);
     }
 
 pub invariant_of-result-2 : goal.invariant_of-result-2
@@ -47,7 +48,7 @@ invariant_of-result-2 g c =
     let all = map g.S.ReadSeries.keyed c.args.series.now in
     let places = c.in_ok-places.places.items in
     let rows = rows_placed places in
-    let is = c.in_ok-places.ensures display all (subst (λ (l : List ShownRow). map pair_shown l ≡ map (pair_of display) all) (sym c.deref.ensures.value) c.in_ok-rows.ensures.rows) in
+    let is = c.in_ok-places.ensures.rows display all (subst (λ (l : List ShownRow). map pair_shown l ≡ map (pair_of display) all) (sym c.deref.ensures.value) c.in_ok-rows.ensures.rows) in
     let Q : List Place → Type 0 = λ ps. (cells : Cells) → AllByRecursion (λ p. Shows cells p.row.now) ps → string_bytes c.in_ok-text.text ≡ rows_text cells (rows_shown (rows_placed ps)) None (rows_shown (rows_placed ps)) in
     let shows = subst Q c.deref-2.ensures.value c.in_ok-text.ensures.ok in
     let keyed = map keyed_shown rows in
@@ -73,7 +74,7 @@ returns-clause-ok g c = λ cells are.
     let all = map g.S.ReadSeries.keyed c.args.series.now in
     let places = c.in_ok-places.places.items in
     let rows = rows_placed places in
-    let is = c.in_ok-places.ensures display all (subst (λ (l : List ShownRow). map pair_shown l ≡ map (pair_of display) all) (sym c.deref.ensures.value) c.in_ok-rows.ensures.rows) in
+    let is = c.in_ok-places.ensures.rows display all (subst (λ (l : List ShownRow). map pair_shown l ≡ map (pair_of display) all) (sym c.deref.ensures.value) c.in_ok-rows.ensures.rows) in
     let Q : List Place → Type 0 = λ ps. (cells : Cells) → AllByRecursion (λ p. Shows cells p.row.now) ps → string_bytes c.in_ok-text.text ≡ rows_text cells (rows_shown (rows_placed ps)) None (rows_shown (rows_placed ps)) in
     let shows = subst Q c.deref-2.ensures.value c.in_ok-text.ensures.ok in
     let kept = readings-once cells all (map keyed_shown rows) are is.once in
@@ -93,7 +94,7 @@ returns-clause-each g c =
     let all = map g.S.ReadSeries.keyed c.args.series.now in
     let places = c.in_ok-places.places.items in
     let rows = rows_placed places in
-    let is = c.in_ok-places.ensures display all (subst (λ (l : List ShownRow). map pair_shown l ≡ map (pair_of display) all) (sym c.deref.ensures.value) c.in_ok-rows.ensures.rows) in
+    let is = c.in_ok-places.ensures.rows display all (subst (λ (l : List ShownRow). map pair_shown l ≡ map (pair_of display) all) (sym c.deref.ensures.value) c.in_ok-rows.ensures.rows) in
     let Q : List Place → Type 0 = λ ps. (cells : Cells) → AllByRecursion (λ p. Shows cells p.row.now) ps → string_bytes c.in_ok-text.text ≡ rows_text cells (rows_shown (rows_placed ps)) None (rows_shown (rows_placed ps)) in
     let shows = subst Q c.deref-2.ensures.value c.in_ok-text.ensures.ok in
     let keyed = map keyed_shown rows in
