@@ -1,5 +1,5 @@
 -- Rows in order of their places.
-use Rattle.std.proofs.Common.{◌≡◌, ◌∙◌, ◌+◌, ◌<◌, ℕ, Bool, true, false, cond, List, [], ◌∷◌, ◌++◌, Option, None, Some, map, length, get_or, take, refl, ap, sym, subst, arith}
+use Rattle.std.proofs.Common.{◌≡◌, ◌∙◌, ◌+◌, ◌<◌, ℕ, Bool, true, false, not, ◌&&◌, cond, List, [], ◌∷◌, ◌++◌, Option, None, Some, is_some, map, length, get_or, take, refl, ap, sym, subst, arith}
 use Rattle.std.specs.Prelude.{IsPermutation, IsTrue, IfSome}
 use Rattle.std.specs.Borrow.{Bor}
 use Rattle.std.specs.List.{AllByRecursion, All, dedup, dedup_from}
@@ -15,15 +15,15 @@ use Rattle.std.proofs.lemmas.List.Filters.{All-dedup}
 use Rattle.std.proofs.lemmas.List.Sorted.{All-permutation}
 use Rattle.metrics_names.specs.declared.kind.MetricKind.{MetricKind}
 use Rattle.metrics_names.specs.declared.kind.MetricKind.TheVariants.{Counter, Gauge, Histogram}
-use Rattle.metrics_names.specs.Names.{LabelParts, kind_number, label_cmp, key_cmp}
+use Rattle.metrics_names.specs.Names.{LabelParts, kind_number, kind_eq, label_cmp, key_cmp}
 use Rattle.metrics_prometheus.specs.declared.row.Head.{Head}
 use Rattle.metrics_prometheus.specs.declared.row.ShownRow.{ShownRow}
 use Rattle.metrics_prometheus.specs.declared.rows.Place.{Place}
-use Rattle.metrics_prometheus.specs.Exposition.{Row, row_cmp}
-use Rattle.metrics_prometheus.specs.Rows.{row_shown}
+use Rattle.metrics_prometheus.specs.Exposition.{Row, row_cmp, last_number, names_used, whole_of}
+use Rattle.metrics_prometheus.specs.Rows.{row_shown, rows_shown}
 use Rattle.metrics_prometheus.specs.Places.{rows_placed, place_cmp, value_placed, IsPlaced, are_led, IsLed, AreLed, AreAlike, line_head}
 use Rattle.metrics_prometheus.specs.Heads.{HaveHead, HaveOneHead}
-use Rattle.metrics_exposition.specs.Labels.{first_key, first_value}
+use Rattle.metrics_exposition.specs.Labels.{are_fit, is_last, first_key, first_value}
 use Rattle.metrics_exposition.specs.Heads.{sample_head}
 use Rattle.metrics_exposition.proofs.PairLemmas.{each-at, each-map, each-append, each-both}
 use Rattle.metrics_prometheus.proofs.RowLemmas.{map-length, map-get}
@@ -187,3 +187,19 @@ head-at h ps i p small at each =
 pub some-named : (h : Head) (last : Option (Bor ShownRow)) (r : ShownRow) → r.head.value ≡ h → IfSome last (λ w. w.now.head.value ≡ h) → IfSome last (λ w. w.now.head.value.name ≡ r.head.value.name)
 some-named h None r is last = tt
 some-named h (Some w) r is last = ap (λ (x : Head). x.name) (last ∙ sym is)
+
+-- rows of a head of another kind are no histograms
+pub numbers-alike : (ps : List Place) (i : ℕ) (p : Place) → i < length ps → p ≡ get_or ps i p → HaveOneHead (rows_placed ps) → kind_eq p.row.now.head.value.kind Histogram ≡ false
+    → AllByRecursion (λ q. kind_eq q.row.now.head.value.kind Histogram ≡ false) ps
+numbers-alike ps i p small at one other =
+    let H : Place → Type 0 = λ q. q.row.now.head.value ≡ one.0 in
+    let here : H p = head-at one.0 ps i p small at one.1 in
+    each-map H (λ q. kind_eq q.row.now.head.value.kind Histogram ≡ false) (λ q e. ap (λ (x : Head). kind_eq x.kind Histogram) (e ∙ sym here) ∙ other) ps (each-mapped (λ q. q.row.now) (λ r. r.head.value ≡ one.0) ps one.1)
+
+-- they use no names
+pub numbers-used : (ps : List Place) (done : List (List ℕ)) (last : Option (List ℕ)) → AllByRecursion (λ p. kind_eq p.row.now.head.value.kind Histogram ≡ false) ps → names_used done last (rows_shown (rows_placed ps)) ≡ done
+numbers-used [] done last each = refl
+numbers-used (p ∷ ps) done last each =
+    let r = row_shown p.row.now in
+    ap (λ b. names_used (cond ((b && are_fit r.kind r.labels) && (not (is_last last r.name) && not (is_some (whole_of done r.name)))) (done ++ r.name ∷ []) done) (last_number last r) (rows_shown (rows_placed ps))) each.0
+    ∙ numbers-used ps done (last_number last r) each.1

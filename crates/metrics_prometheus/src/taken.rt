@@ -1,12 +1,14 @@
 //! The names that histograms use for their samples.
-ghost use Rattle.std.specs.Prelude.{◌≡◌, IfOk, is_some, option_map};
+ghost use Rattle.std.specs.Prelude.{◌≡◌, false, IfOk, IsTrue, is_some, option_map};
 ghost use Rattle.std.specs.List.{AllByRecursion};
 ghost use Rattle.std.specs.List.Sorted.{IsSorted};
 ghost use Rattle.std.specs.Cmp.Lexicographic.{slice_cmp};
 ghost use Rattle.std.specs.Ordering.{nat_cmp};
-ghost use Rattle.metrics_names.specs.Names.{label_cmp};
+ghost use Rattle.metrics_names.specs.declared.kind.MetricKind.TheVariants.{Histogram};
+ghost use Rattle.metrics_names.specs.Names.{kind_eq, label_cmp};
 ghost use Rattle.metrics_prometheus.specs.Exposition.{row_cmp, is_fit_histogram, is_fit_number, last_number, uses_name};
 ghost use Rattle.metrics_prometheus.specs.Exposition.{histogram_names, found_in, part_of, whole_of};
+ghost use Rattle.metrics_prometheus.specs.Heads.{HaveOneHead};
 ghost use Rattle.metrics_prometheus.specs.Places.{rows_placed};
 ghost use Rattle.metrics_prometheus.specs.Rows.{row_shown, rows_shown, names_shown};
 
@@ -67,17 +69,37 @@ fn uses_name(histograms: &[&str], last: Option<&str>, row: &ShownRow<'_>) -> boo
             && !is_part(histograms, row.head.name.as_str().as_bytes()))
 }
 
-/// The names that histograms use for their samples, in order: those of the histograms that are written.
+/// Returns whether rows that are known to have one head are no histograms.
+fn are_numbers(places: &[Place<'_, '_>], have_one_head: bool) -> bool
+    requires { IsTrue have_one_head → HaveOneHead (rows_placed places.now) }
+    ensures { IsTrue result → AllByRecursion (λ p. kind_eq p.row.now.head.value.kind Histogram ≡ false) places.now }
+{
+    if !have_one_head {
+        return false;
+    }
+    match places {
+        [] => true,
+        [first, ..] => first.row.head.kind != MetricKind::Histogram,
+    }
+}
+
+/// The names that histograms use for their samples, in order: those of the histograms that are written. Rows may be known to have
+/// one head.
 pub(crate) fn histogram_names<'r>(
     alloc: Global,
     places: &[Place<'r, '_>],
+    have_one_head: bool,
 ) -> Result<Vec<&'r str>, AllocError>
     requires sorted { IsSorted row_cmp (rows_shown (rows_placed places.now)) }
     requires labels { AllByRecursion (λ p. IsSorted label_cmp p.row.now.labels) places.now }
+    requires head { IsTrue have_one_head → HaveOneHead (rows_placed places.now) }
     ensures names { IfOk result (λ names. names_shown names.items ≡ histogram_names (rows_shown (rows_placed places.now))) }
     ensures sorted { IfOk result (λ names. IsSorted (slice_cmp nat_cmp) (names_shown names.items)) }
 {
     let mut names = Vec::new(alloc);
+    if are_numbers(places, have_one_head) {
+        return Ok(names);
+    }
     let mut last = None;
     for place in places {
         if uses_name(&names, last, place.row) {

@@ -16,7 +16,7 @@ ghost use Rattle.metrics_prometheus.specs.Exposition.{Row, row_cmp, histogram_na
 ghost use Rattle.metrics_prometheus.specs.Exposition.{help_line, type_line, name_lines, name_text};
 ghost use Rattle.metrics_prometheus.specs.Exposition.{samples_of, row_lines, rows_text};
 ghost use Rattle.metrics_prometheus.specs.Exposition.{IsExposition, IsDescribed, IsScaled};
-ghost use Rattle.metrics_prometheus.specs.Heads.{HaveHead, HaveOneHead};
+ghost use Rattle.metrics_prometheus.specs.Heads.{HaveOneHead};
 ghost use Rattle.metrics_prometheus.specs.Places.{rows_placed, AreAlike, line_head};
 ghost use Rattle.metrics_prometheus.specs.Written.{AreLeftOut};
 ghost use Rattle.metrics_exposition.specs.Reading.{AreOfKinds};
@@ -209,7 +209,8 @@ fn begun_line(
     are_alike: bool,
 ) -> Result<Option<String>, AllocError>
     requires { IsTrue are_alike → AreAlike (rows_placed places.now) }
-    ensures begun { IfOk result (λ begun. IfSome begun (λ b. AllByRecursion (λ p. string_bytes b ≡ line_head p.row.now) places.now)) }
+    ensures begun { IfOk result (λ begun.
+        IfSome begun (λ b. AllByRecursion (λ p. string_bytes b ≡ line_head p.row.now) places.now)) }
     ensures head { IfOk result (λ begun. IfSome begun (λ b. HaveOneHead (rows_placed places.now))) }
 {
     if !are_alike {
@@ -241,7 +242,7 @@ fn rows_text(
     ensures number { IfOk result (λ t. AreLeftOut (rows_shown (rows_placed places.now)) t.1) }
     ensures err { IfErr result (λ e. e ≡ OutOfMemory) }
 {
-    let histograms = histogram_names(alloc, places)?;
+    let histograms = histogram_names(alloc, places, are_alike)?;
     let line = begun_line(alloc, places, are_alike)?;
     let begun = line.as_deref();
     let mut text = String::with_capacity(alloc, places.len().saturating_mul(ROW_BYTES))?;

@@ -1,4 +1,4 @@
-use Rattle.std.proofs.Common.{◌∙◌, ◌++◌, ◌∷◌, [], List, ℕ, None, cond, option_map, refl, ap, sym, subst}
+use Rattle.std.proofs.Common.{rules, ◌∙◌, ◌++◌, ◌∷◌, [], List, ℕ, None, cond, option_map, refl, ap, sym, subst}
 use Rattle.std.specs.Borrow.{Bor}
 use Rattle.std.specs.List.Sorted.{IsSorted}
 use Rattle.std.specs.Cmp.Lexicographic.{slice_cmp}
@@ -8,6 +8,7 @@ use Rattle.metrics_prometheus.specs.Exposition.{histogram_names, uses_name}
 use Rattle.metrics_prometheus.specs.Places.{rows_placed}
 use Rattle.metrics_prometheus.specs.Rows.{row_shown, rows_shown, names_shown}
 use Rattle.metrics_prometheus.proofs.SearchLemmas.{Uses, up-start, up-sorted, uses-more, used-then}
+use Rattle.metrics_prometheus.proofs.PlaceLemmas.{numbers-used}
 use Rattle.metrics_prometheus.proofs.taken.histogram_names.Goals as goal
 use Rattle.metrics_prometheus.proofs.taken.histogram_names.Goals.{then-uses_name+in_ok-push, else-uses_name}
 
@@ -35,3 +36,6 @@ loop-place-preserved c =
 
 pub returns-clause-sorted : goal.returns-clause-sorted
 returns-clause-sorted c = up-sorted (names_shown c.loop-place.names.items) _ c.loop-place.invariant.1
+
+pub returns-then-are_numbers-clause-names : goal.returns-then-are_numbers-clause-names
+returns-then-are_numbers-clause-names c = ap names_shown c.new-names.ensures.items ∙ sym (numbers-used c.args.places.now [] None (c.are_numbers.ensures (search rules)))

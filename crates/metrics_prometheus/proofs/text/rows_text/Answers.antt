@@ -40,6 +40,9 @@ write_row-requires c =
           (λ x y e one. some-named one.0 c.loop-place.last c.place-item.result.row.now (head-at one.0 c.args.places.now c.loop-place.place-index c.place-item.result c.loop-place-test.true c.place-item.is one.1) (c.loop-place.invariant.head one.0 one.1)) c.in_ok-line.ensures.head;
     }
 
+pub histogram_names-requires-clause-head : goal.histogram_names-requires-clause-head
+histogram_names-requires-clause-head c = λ is. (c.requires.alike is).0
+
 pub loop-place-preserved : goal.loop-place-preserved
 loop-place-preserved c =
     let shown : Option (Bor ShownRow) → Option Row = option_map (λ w. row_shown w.now) in
