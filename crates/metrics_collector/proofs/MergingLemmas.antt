@@ -8,7 +8,6 @@ use Rattle.std.proofs.lemmas.Bool.{false≢true, cases_lt}
 use Rattle.std.proofs.lemmas.Map.Keys.{IsDistinct-head, IsDistinct-tail, IsDistinct-cons}
 use Rattle.metrics_names.specs.Names.{SeriesKey, series_key_eq}
 use Rattle.metrics_names.specs.Equality.{key_exact, key_same}
-use Rattle.metrics_storage.specs.Histogram.{Distribution, bounds_of}
 use Rattle.metrics_exporter.specs.Exporting.{Reading, count, level, samples}
 use Rattle.metrics_exporter.specs.Gathering.{series_at}
 use Rattle.metrics_exporter.specs.Readings.{KeyedReading}
@@ -16,9 +15,8 @@ use Rattle.metrics_collector.specs.declared.gathered.Value.{Value}
 use Rattle.metrics_collector.specs.declared.gathered.GatheredSeries.{GatheredSeries}
 use Rattle.metrics_collector.specs.Gathering.{kind_of, reading_of, keyed_gathered}
 use Rattle.metrics_collector.specs.declared.merging.AbsorbError.{AbsorbError}
-use Rattle.metrics_collector.specs.declared.merging.AbsorbError.TheVariants.{Memory, OtherBounds, CountFull}
 use Rattle.metrics_collector.specs.Merging.{are_same, joined, joined_with, joined_all, readings_of, reading_of_series, with_reading, with_all, AreJoined, IsCount, AreCounters}
-use Rattle.metrics_collector.specs.Merging.{HasEachOnce, AreRefused, IsRefused, IsRowRefused, HasRefused}
+use Rattle.metrics_collector.specs.Merging.{HasEachOnce, IsRefused, IsRowRefused, HasRefused}
 
 -- ---- by places
 
@@ -275,11 +273,6 @@ pub refused-none : (error : AbsorbError) (r : Reading) → IsRefused error None 
 refused-none error (count n) h = h
 refused-none error (level n) h = h
 refused-none error (samples d) h = h
-
-pub can-merge : (d e : Distribution) → bounds_of d ≡ bounds_of e → d.count + e.count < 2 ^ 64 → (error : AbsorbError) → AreRefused error d e → ⊥
-can-merge d e same few Memory h = h
-can-merge d e same few OtherBounds h = h same
-can-merge d e same few CountFull h = omega (arith, few, h.1)
 
 -- ---- in either order
 

@@ -1,7 +1,7 @@
 -- Updates of a key one after another, and rows one after another.
 use Rattle.std.proofs.Common.{◌≡◌, ℕ, zero, suc, ◌<◌, ◌+◌, ◌≤◌, Bool, true, cond, List, [], ◌∷◌, ◌++◌, map, take, drop, get_or, length, None, Some, inl, Result, Ok, Err, refl, ap, sym, ◌∙◌, subst, arith, append_assoc, take-append-drop, drop-cons, add-one}
-use Rattle.std.specs.Prelude.{◌↔◌, ◌⊎◌, ◌&&◌, ℤ, OnOk, IfErr, bytes_eq}
-use Rattle.std.proofs.lemmas.List.{length-map, length-take-le, map-append, take_more, take_all, drop_all, length-drop}
+use Rattle.std.specs.Prelude.{◌↔◌, ◌⊎◌, ◌&&◌, ℤ, OnOk, bytes_eq}
+use Rattle.std.proofs.lemmas.List.{length-map, length-take-le, map-append, take_more, take_all, drop_all}
 use Rattle.metrics_names.specs.Names.{KeyParts, kind_eq}
 use Rattle.metrics.specs.declared.error.Error.{Error}
 use Rattle.metrics.specs.declared.error.Error.TheVariants.{Memory, CountFull}
@@ -178,16 +178,6 @@ module _ (rows : List RowParts) (marks : List Bool) (i : ℕ) (row : RowParts) (
       stops-at setup log (marked rows marks) i here (record { error = error; rows = i; samples = n }) after within here-at refl (subst M (row-all here) (subst R refused makes))
 
 -- ---- going on after a part
-
--- a stop at the first update, after s samples
-pub within-first : (r : Result (Unit {0}) (Error × ℕ)) (s most : ℕ) → s ≤ most → IfErr r (λ e. e.1 ≡ 0) → IfErr r (λ e. s + e.1 ≤ most)
-within-first (Ok done) s most small h = tt
-within-first (Err (e, n)) s most small h = omega (arith, small, h)
-
--- a stop at a sample, after s samples
-pub within-samples : (r : Result (Unit {0}) (Error × ℕ)) (s most : ℕ) (xs : List ℤ) → length xs ≤ most → IfErr r (λ e. e.1 < length (drop s xs)) → IfErr r (λ e. s + e.1 ≤ most)
-within-samples (Ok done) s most xs long h = tt
-within-samples (Err (e, n)) s most xs long h = omega (arith, long, h, length-drop s xs)
 
 pub nothing-remaining : (part : PartlyAbsorbed) (rows : List MarkedRow) → length rows ≤ part.rows → remaining part rows ≡ []
 nothing-remaining part rows past = ap (first_remaining part.samples) (drop_all part.rows rows past)

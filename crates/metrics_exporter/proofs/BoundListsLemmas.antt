@@ -1,9 +1,9 @@
 -- Bounds that are pushed one after another.
-use Rattle.std.proofs.Common.{◌≡◌, ◌∙◌, ℕ, suc, ◌+◌, ◌<◌, inl, inr, ℤ, List, [], ◌∷◌, ◌++◌, length, get_or, Option, None, Some, IsSome, ap, sym, subst, arith}
-use Rattle.std.specs.Prelude.{pos, FitsSigned, IfSome, MatchOption, ◌↔◌}
+use Rattle.std.proofs.Common.{◌≡◌, ◌∙◌, ℕ, suc, ◌+◌, ◌<◌, inl, inr, ℤ, List, [], ◌∷◌, ◌++◌, length, get_or, Option, ap, sym, arith}
+use Rattle.std.specs.Prelude.{pos, FitsSigned, MatchOption}
 use Rattle.std.specs.Int.{w64}
 use Rattle.std.proofs.lemmas.List.{get_or_push, get_or_append_left}
-use Rattle.std.proofs.lemmas.Bool.{cases_lt, false≢true}
+use Rattle.std.proofs.lemmas.Bool.{cases_lt}
 use Rattle.metrics_exporter.specs.BoundLists.{after_steps}
 
 one-more : (k : ℕ) → suc k ≡ k + 1
@@ -25,7 +25,3 @@ module _ (step : ℤ → ℤ) (start : ℤ) where
         let here : j ≡ k = omega (arith, l, less) in
         get_or_push xs x (pos 0) j (n ∙ sym here) ∙ is ∙ ap (after_steps step start) (sym here)
   ]
-
-  pub next-more : (k : ℕ) (b : ℤ) (next : Option ℤ) → b ≡ after_steps step start k → IfSome next (λ c. c ≡ step b) → (IsSome next ↔ FitsSigned w64 (step b)) → IsNext next (k + 1)
-  next-more k b (Some c) is value fits = value ∙ ap step is ∙ ap (after_steps step start) (one-more k)
-  next-more k b None is value fits = λ h. false≢true (fits.1 (subst (FitsSigned w64) (sym (ap step is ∙ ap (after_steps step start) (one-more k))) h))

@@ -1,6 +1,6 @@
 -- What an exporter keeps after one more call.
-use Rattle.std.proofs.Common.{◌≡◌, Bool, true, false, cond, List, [], ◌∷◌, ◌++◌, Option, None, Some, Result, Ok, Err, IfErr, OnOk, inl, inr, refl, ap, sym, ◌∙◌, subst, reverse, append-nil}
-use Rattle.std.specs.Prelude.{◌↔◌, option_map, ◌⊎◌}
+use Rattle.std.proofs.Common.{◌≡◌, Bool, true, false, cond, List, [], ◌∷◌, ◌++◌, Option, None, Some, Result, Ok, Err, IfErr, OnOk, refl, ap, sym, ◌∙◌, subst, reverse, append-nil}
+use Rattle.std.specs.Prelude.{◌↔◌, option_map}
 use Rattle.std.proofs.lemmas.Grind.{flat_map-append}
 use Rattle.std.proofs.lemmas.List.{reverse-append}
 use Rattle.metrics_names.specs.declared.kind.MetricKind.{MetricKind}
@@ -20,7 +20,7 @@ use Rattle.metrics_registry.specs.Recency.{Rules, Check, Table, new_table, table
 use Rattle.metrics_registry.specs.RecencyEntries.{rules_of, table_of}
 use Rattle.metrics_registry.specs.Idleness.{Answered, run_answer, run_answers, TableGivesRuns}
 use Rattle.metrics_exporter.specs.declared.exporter.Exporter.{Exporter}
-use Rattle.metrics_exporter.specs.Exporting.{Setup, Event, updates_in, Log, Step, updated_in, steps, steps_of, series_of, count, level, samples, Cell, Cells, IsFull, cells_after}
+use Rattle.metrics_exporter.specs.Exporting.{Setup, Event, updates_in, Log, Step, updated_in, steps, steps_of, series_of, count, level, samples, Cells, IsFull, cells_after}
 use Rattle.metrics_exporter.specs.Stepping.{cell_has_room, TakesUpdate, RefusesUpdate, UpdatesCells, cell_with, or_new, new_cell}
 use Rattle.metrics_exporter.specs.Choice.{bounds_in}
 use Rattle.metrics_exporter.specs.Kept.{SeriesRegistry, cells_of, empty_in, HasBounds, AnswersAfter, Keeps, IsAfter}
@@ -165,12 +165,3 @@ update-full setup log a key u r P taken refused after = go r taken refused (cell
       λ h. (full-cells setup (steps log) key u).0 (sym same ∙ e),
       λ full. ap Err (f.0 ∙ ap (λ c. cond c Memory CountFull) e),
     )
-
--- why an update fails
-pub update-refused : (o : Option Cell) (r : Done) (P : Type 0) → IfErr r (λ e. RefusesUpdate o e × P) → IfErr r (λ e. ((e ≡ Memory) ⊎ (e ≡ CountFull)) × P)
-update-refused o (Ok done) P h = tt
-update-refused o (Err e) P h = (go (cell_has_room o) h.0, h.1)
-  where
-    go : (b : Bool) → e ≡ cond b Memory CountFull → (e ≡ Memory) ⊎ (e ≡ CountFull)
-    go true k = inl k
-    go false k = inr k

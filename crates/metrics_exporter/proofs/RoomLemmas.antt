@@ -31,10 +31,6 @@ takes-sample sample old new (Err x) step refused raised stays =
 
 -- ---- all cells
 
-some-inside : {A : Type 0} → A → Option A → A
-some-inside d None = d
-some-inside d (Some a) = a
-
 module _ (sample : ℤ) (key : KeyParts) (empty : Distribution) (none : empty.count ≡ 0) (old new : List (KeyParts × Counted Distribution)) (before after : Counted Distribution)
     (sets : Sets key_eq key (Some after) old new) (keys : IsSome (held key_eq old key) → keys_of new ≡ keys_of old) (once : IsDistinct key_eq (keys_of old)) where
   unchanged : (cell : Counted Distribution) → held key_eq old key ≡ Some cell → after ≡ cell → new ≡ old

@@ -20,7 +20,7 @@ use Rattle.metrics.specs.declared.handles.Update.TheVariants.{Increment, Absolut
 use Rattle.metrics.specs.Book.{kind_of, new_value, value_from, updated as with_update}
 use Rattle.metrics_storage.specs.Histogram.{Distribution, no_samples, with_samples, bucket_with, at_most}
 use Rattle.metrics_registry.specs.Idleness.{Answered}
-use Rattle.metrics_exporter.specs.Exporting.{Step, updated_in, checked, series_of, series_checked, removes, after_removal, UpdateIn, update_of, since_in, since, updates_alone, first_unit, Reading, samples, reading, Cell, cell_of, cells_after, Setup, check_in, checks_in}
+use Rattle.metrics_exporter.specs.Exporting.{Step, updated_in, checked, series_of, series_checked, removes, after_removal, UpdateIn, update_of, since_in, updates_alone, first_unit, Reading, samples, reading, Cell, cell_of, cells_after, Setup, check_in, checks_in}
 use Rattle.metrics_exporter.specs.Stepping.{reading_with, cell_with, new_reading, new_cell, or_new}
 
 -- ---- the updates of a series
@@ -59,21 +59,6 @@ since_in-checked xs a t =
 
 alone-push : (us : List UpdateIn) (unit : Option Measure) (u : Update) → updates_alone (us ++ (unit, u) ∷ []) ≡ updates_alone us ++ u ∷ []
 alone-push us unit u = map-append (λ v. v.1) us ((unit, u) ∷ [])
-
-pub since-updated : (xs : List Step) (unit : Option Measure) (key : KeyParts) (u : Update) (t : SeriesKey)
-    → since (xs ++ updated_in unit key u ∷ []) t ≡ cond (series_key_eq (series_of key u) t) (since xs t ++ u ∷ []) (since xs t)
-since-updated xs unit key u t = ap updates_alone (since_in-updated xs unit key u t) ∙ go (series_key_eq (series_of key u) t)
-  where
-    go : (b : Bool) → updates_alone (cond b (since_in xs t ++ (unit, u) ∷ []) (since_in xs t)) ≡ cond b (since xs t ++ u ∷ []) (since xs t)
-    go true = alone-push (since_in xs t) unit u
-    go false = refl
-
-pub since-checked : (xs : List Step) (a : Answered KeyParts) (t : SeriesKey) → since (xs ++ checked a ∷ []) t ≡ cond (removes t (checked a)) [] (since xs t)
-since-checked xs a t = ap updates_alone (since_in-checked xs a t) ∙ go (removes t (checked a))
-  where
-    go : (b : Bool) → updates_alone (cond b [] (since_in xs t)) ≡ cond b [] (since xs t)
-    go true = refl
-    go false = refl
 
 pub checks-updated : (xs : List Step) (unit : Option Measure) (key : KeyParts) (u : Update) → checks_in (xs ++ updated_in unit key u ∷ []) ≡ checks_in xs
 checks-updated xs unit key u = filter_map-append check_in xs (updated_in unit key u ∷ []) ∙ append-nil (checks_in xs)

@@ -64,10 +64,6 @@ unit-end (Some Microseconds) = inr refl
 unit-end (Some Nanoseconds) = inr refl
 unit-end (Some Bytes) = inr refl
 
-end-more : (n end : List ℕ) → IsFront n → IsEnd end → IsFront (n ++ end)
-end-more n end h (inl none) = subst IsFront (sym (ap (λ e. n ++ e) none ∙ append-nil n)) h
-end-more n end h (inr is) = name-front (n ++ end) (front-more n end h is)
-
 front-take : (k : ℕ) (n : List ℕ) → IsFront n → IsFront (take k n)
 front-take zero [] h = tt
 front-take (suc k) [] h = tt
@@ -128,9 +124,6 @@ module _ (unit total : List ℕ) where
   -- both ends once less
   abbrev shorter : List ℕ → List ℕ
   shorter n = without_end (without_end n total) unit
-
-  shorter-length : (n : List ℕ) → length (shorter n) ≤ length n
-  shorter-length n = omega (arith, off-length n total, off-length (without_end n total) unit)
 
   pub shorter-same : (n : List ℕ) → length n ≤ length (shorter n) → shorter n ≡ n
   shorter-same n long =

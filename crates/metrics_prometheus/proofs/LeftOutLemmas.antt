@@ -58,9 +58,6 @@ pub record IsLeft (lines : List Line) (keyed : List (Bor (List ℕ))) (rest : Li
   pub is : rest ≡ flat_map line_text left
   pub told_is : names_shown keyed ++ filter_map left_out_in left ≡ filter_map left_out_in lines
 
-pub left-all : (lines : List Line) (rest : List ℕ) → rest ≡ flat_map line_text lines → AllByRecursion IsReadable lines → IsLeft lines [] rest
-left-all lines rest is h = record { left = lines; readable = h; is = is; told_is = refl }
-
 no-line : (line behind : List ℕ) → [] ≡ line ++ 10 ∷ behind → ⊥
 no-line line behind e = absurd (let g : 0 ≡ length (line ++ 10 ∷ behind) = ap length e in omega (arith, g, length-append line (10 ∷ behind)))
 

@@ -14,7 +14,7 @@ use Rattle.std.proofs.lemmas.Map.Lookups.{exact_bytes}
 use Rattle.metrics_prometheus.specs.declared.rows.Place.{Place}
 use Rattle.metrics_prometheus.specs.Places.{rows_placed}
 use Rattle.metrics_prometheus.specs.Rows.{row_shown, rows_shown, names_shown}
-use Rattle.metrics_prometheus.specs.Exposition.{Row, row_cmp, last_number, uses_name, names_used, histogram_names, found_in}
+use Rattle.metrics_prometheus.specs.Exposition.{Row, row_cmp, last_number, uses_name, names_used, found_in}
 use Rattle.metrics_exposition.proofs.PairLemmas.{each-map, each-append, Pairs, pairs-append, pairs-places}
 use Rattle.metrics_prometheus.proofs.RowLemmas.{map-length, map-get}
 use Rattle.metrics_exposition.proofs.SameLemmas.{bytes-same, same-bytes}
@@ -55,13 +55,6 @@ up-more false done r rs up = record {
 
 pub up-sorted : (done : List (List ℕ)) (rs : List Row) → AreUp done rs → IsSorted names done
 up-sorted done rs up k d first small = pairs-places NotAbove done up.own k (k + 1) d (omega arith) small
-
-used-up : (rs : List Row) (done : List (List ℕ)) (last : Option (List ℕ)) → AreUp done rs → IsSorted names (names_used done last rs)
-used-up [] done last up = up-sorted done [] up
-used-up (r ∷ rs) done last up = used-up rs (cond (uses_name done last r) (done ++ r.name ∷ []) done) (last_number last r) (up-more (uses_name done last r) done r rs up)
-
-pub names-up : (rows : List Row) → IsSorted row_cmp rows → IsSorted names (histogram_names rows)
-names-up rows up = used-up rows [] None (up-start rows up)
 
 -- what these names and the rows to come use together
 abbrev pub Uses : List (List ℕ) → Option (List ℕ) → List (List ℕ) → List Place → Type 0

@@ -6,7 +6,7 @@ use Rattle.std.specs.Option.{option_or}
 use Rattle.std.specs.List.{ends_with}
 use Rattle.std.proofs.lemmas.List.{at_drop_more, take_all}
 use Rattle.metrics_exporter.specs.Exporting.{Cells}
-use Rattle.metrics_prometheus.specs.Exposition.{Row, histogram_names, found_in, part_of, part, labels_reason, name_reason, same_name_reason, last_reason, reason_of, name_lines, name_text, is_left_out, row_text, last_after, rows_text}
+use Rattle.metrics_prometheus.specs.Exposition.{Row, histogram_names, found_in, part_of, part, labels_reason, name_reason, same_name_reason, last_reason, reason_of, is_left_out, row_text, last_after, rows_text}
 use Rattle.metrics_prometheus.specs.Written.{written}
 use Rattle.metrics_prometheus.specs.declared.rows.Place.{Place}
 use Rattle.metrics_prometheus.specs.Places.{rows_placed}
@@ -50,14 +50,6 @@ named-last (Some w) r = go (bytes_eq w.name r.name) refl
 
 pub named-reason : (all : List Row) (last : Option Row) (r : Row) → reason_of all (named last r.name) r ≡ reason_of all last r
 named-reason all last r = ap (λ o. option_or (labels_reason r.kind r.labels) (option_or (name_reason (histogram_names all) r.name) o)) (named-last last r)
-
-pub named-text : (last : Option Row) (r : Row) → name_text (named last r.name) r ≡ name_text last r
-named-text None r = refl
-named-text (Some w) r = go (bytes_eq w.name r.name) refl
-  where
-    go : (b : Bool) → bytes_eq w.name r.name ≡ b → name_text (cond b (Some w) None) r ≡ cond b [] (name_lines r)
-    go true e = ap (λ b. cond b [] (name_lines r)) e
-    go false e = refl
 
 -- the text with one more row
 pub text-more : (cells : Cells) (all : List Row) (last after : Option Row) (xs : List Place) (i : ℕ) (x : Place) (before now whole : List ℕ)

@@ -72,9 +72,6 @@ pub record BoundsSoFar (word rest : List ℕ) (ns : List ℤ) : Type 0 where
   pub left : (ms : List ℤ) → AreSamples ms → word ≡ samples_text ms → (others : List ℤ) × AreSamples others
       × (rest ≡ samples_text others)
 
-pub bounds_none : (word : List ℕ) → BoundsSoFar word word []
-bounds_none word = record { fit = tt; whole = refl; left = λ ms h e. (ms, h, e) }
-
 fit_push : (ns : List ℤ) (n : ℤ) → AllByRecursion (FitsSigned w64) ns → FitsSigned w64 n
     → AllByRecursion (FitsSigned w64) (ns ++ n ∷ [])
 fit_push [] n h f = (f, tt)

@@ -1,6 +1,6 @@
 -- A line spells one request, or none.
 use Rattle.std.proofs.Common.{◌≡◌, ◌≢◌, ℕ, suc, ◌<◌, ◌^◌, List, ◌∷◌, ◌++◌, Option, None, Some}
-use Rattle.std.proofs.Common.{Result, Ok, Err, MatchResult, MatchOption, refl, sym, ◌∙◌, ap, arith, codes, decimal}
+use Rattle.std.proofs.Common.{Result, Ok, Err, MatchResult, MatchOption, refl, ◌∙◌, ap, arith, codes, decimal}
 use Rattle.std.proofs.Common.{FitsSigned, w64}
 use Rattle.std.specs.Prelude.{ℤ, pos, negsuc}
 use Rattle.std.specs.Fmt.{signed_decimal}
@@ -66,13 +66,6 @@ no_scrape (Record n) e = false≢true ((bytes_eq-Decides (codes "scrape") (codes
 
 pub lacks_scrape : Lacks 32 (codes "scrape")
 lacks_scrape = lacks_literal 32 (codes "scrape") refl
-
-pub no_moment : (line word rest : List ℕ) → line ≡ word ++ 32 ∷ rest → Lacks 32 word → word ≡ codes "scrape"
-    → ((n : ℕ) → n < 2 ^ 64 → rest ≡ decimal n → ⊥) → IsBad line
-no_moment line word rest split lacks is none (Change key u) h =
-    no_scrape u (sym is ∙ (first_same 32 line word rest (update_word u) _ lacks (lacks_update u) split h.1).0)
-no_moment line word rest split lacks is none (Scrape now) h =
-    none now h.0 ((first_same 32 line word rest (codes "scrape") (decimal now) lacks lacks_scrape split h.1).1)
 
 pub moment : (line word rest : List ℕ) (n : ℕ) → line ≡ word ++ 32 ∷ rest → word ≡ codes "scrape" → n < 2 ^ 64
     → rest ≡ decimal n → Spells line (Scrape n)

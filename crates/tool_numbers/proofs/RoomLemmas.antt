@@ -8,9 +8,6 @@ use Rattle.tool_numbers.specs.Parts.{is_none}
 lt-true : (m n : ℕ) → nat_lt m n ≡ true → n ≤ m → ⊥
 lt-true m n h le = grind (arith, nat_tests)
 
-lt-false : (m n : ℕ) → nat_lt m n ≡ false → n ≤ m
-lt-false m n h = grind (arith, nat_tests)
-
 both-true : (a b : Bool) → (a && b) ≡ true → (a ≡ true) × (b ≡ true)
 both-true true true h = (refl, refl)
 both-true true false h = absurd (false≢true h)
@@ -28,11 +25,3 @@ too-many places n test plain few is holds plain_is few_is room =
     no-room (raised ds) e h = absurd (false≢true (sym (ap is_none e) ∙ h))
     no-room (raised_plus ds) e h = absurd (false≢true (sym (ap is_none e) ∙ h))
     no-room (lowered ds) e h = absurd (false≢true (sym (ap is_none e) ∙ h))
-
--- no place too many
-pub has-room : (places : ℕ) (n : Numeral) (test plain : Bool) (few : ℕ) → test ≡ (plain && nat_lt places few) → test ≡ false
-    → plain ≡ is_none n.power → few ≡ length n.fraction → HasRoom places n
-has-room places n test plain few is fails plain_is few_is = λ e.
-    let is_plain : plain ≡ true = plain_is ∙ ap is_none e in
-    let none_more : nat_lt places few ≡ false = sym (ap (λ b. b && nat_lt places few) is_plain) ∙ sym is ∙ fails in
-    subst (λ z. z ≤ places) few_is (lt-false places few none_more)

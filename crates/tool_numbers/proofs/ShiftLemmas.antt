@@ -1,5 +1,5 @@
 -- Numbers times powers of ten.
-use Rattle.std.proofs.Common.{◌≡◌, ◌≢◌, ◌∙◌, ℕ, zero, suc, ◌+◌, ◌*◌, ◌/◌, ◌%◌, ◌^◌, ◌<◌, ◌≤◌, refl, ap, sym, subst, arith}
+use Rattle.std.proofs.Common.{◌≡◌, ◌≢◌, ◌∙◌, ℕ, zero, suc, ◌+◌, ◌*◌, ◌/◌, ◌%◌, ◌^◌, ◌<◌, ◌≤◌, ap, sym, subst, arith}
 use Rattle.std.proofs.Math.Nat.{one-le-pow, mul_assoc, mul-le-mul_right, mul-mod_left, mul-div_cancel}
 use Rattle.std.proofs.lemmas.Nat.{pow-add}
 
@@ -17,9 +17,6 @@ pub too-large : (n power : ℕ) → n ≢ 0 → (power < 2 ^ 128 → ⊥) → (u
 too-large n power some large units small is =
     let g = grows n power (omega (arith, some)) in
     large (omega (arith, small, is, g))
-
-pub product-large : (n power : ℕ) → (n * power < 2 ^ 128 → ⊥) → (units : ℕ) → units < 2 ^ 64 → units ≡ n * power → ⊥
-product-large n power large units small is = large (omega (arith, small, is))
 
 pub not-whole : (n power : ℕ) → n ≢ 0 → n < 2 ^ 128 → (power < 2 ^ 128 → ⊥) → (units : ℕ) → units * power ≡ n → ⊥
 not-whole n power some fits large zero is = some (sym is ∙ (grind arith))

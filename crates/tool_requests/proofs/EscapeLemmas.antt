@@ -94,12 +94,3 @@ escaped-same (c ∷ cs) (d ∷ ds) x y e =
 pub starts-else : (c : ℕ) (bytes : List ℕ) → ((rest : List ℕ) → bytes ≡ c ∷ rest → ⊥) → StartsElse c bytes
 starts-else c [] none = tt
 starts-else c (x ∷ xs) none = λ e. none xs (ap (λ z. z ∷ xs) e)
-
-pub escape-some : (c : ℕ) (rest : List ℕ) → escape c ++ rest ≡ [] → ⊥
-escape-some c rest e = some (escape c) (escape-is c) e
-  where
-    some : (bs : List ℕ) → Escape c bs → bs ++ rest ≡ [] → ⊥
-    some bs (slash k f) e = let g : 92 ∷ (92 ∷ rest) ≡ [] = sym (ap (λ l. l ++ rest) f) ∙ e in absurd (cc)
-    some bs (quote k f) e = let g : 92 ∷ (34 ∷ rest) ≡ [] = sym (ap (λ l. l ++ rest) f) ∙ e in absurd (cc)
-    some bs (feed k f) e = let g : 92 ∷ (110 ∷ rest) ≡ [] = sym (ap (λ l. l ++ rest) f) ∙ e in absurd (cc)
-    some bs (itself k l m f) e = let g : c ∷ rest ≡ [] = sym (ap (λ l. l ++ rest) f) ∙ e in absurd (cc)

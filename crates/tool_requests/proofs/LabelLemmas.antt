@@ -7,7 +7,7 @@ use Rattle.tool_grammar.specs.Cuts.{StartsAt}
 use Rattle.tool_grammar.proofs.WordsLemmas.{before_same, first_same}
 use Rattle.tool_requests.specs.Lines.{escape, escaped, IsQuotable, StartsElse, CanBeValue, value_word, Written, IsWritten, label_of}
 use Rattle.tool_requests.specs.Lines.{label_word, label_words, LacksKey, HasRoom, MayFollow, AreWritten, put_in, in_order}
-use Rattle.tool_requests.proofs.EscapeLemmas.{escape-same, escaped-same, escape-some}
+use Rattle.tool_requests.proofs.EscapeLemmas.{escape-same, escaped-same}
 
 -- ---- quoted values
 
@@ -17,9 +17,6 @@ pub record QuotedSoFar (bytes rest value : List ℕ) : Type 0 where
       → AllByRecursion IsQuotable (value ++ v) × (bytes ≡ escaped (value ++ v) ++ 34 ∷ r)
   pub left : (v r : List ℕ) → AllByRecursion IsQuotable v → bytes ≡ escaped v ++ 34 ∷ r
       → (w : List ℕ) × AllByRecursion IsQuotable w × (rest ≡ escaped w ++ 34 ∷ r)
-
-pub quoted-none : (bytes : List ℕ) → QuotedSoFar bytes bytes []
-quoted-none bytes = record { made = λ v r h e. (h, e); left = λ v r h e. (v, h, e) }
 
 not-quote : (rest r : List ℕ) → StartsElse 34 rest → rest ≡ 34 ∷ r → ⊥
 not-quote rest r h e = subst (StartsElse 34) e h refl
@@ -52,11 +49,6 @@ quoted-fails bytes rest value so starts none v r h e = let (w, hw, at) = so.left
     step : (w : List ℕ) → AllByRecursion IsQuotable w → rest ≡ escaped w ++ 34 ∷ r → ⊥
     step [] hw at = not-quote rest r starts at
     step (d ∷ ds) hw at = none d (escaped ds ++ 34 ∷ r) hw.0 (at ∙ append_assoc (escape d) (escaped ds) (34 ∷ r))
-
-pub quoted-open : (bytes rest value : List ℕ) → QuotedSoFar bytes rest value → rest ≡ []
-    → (v r : List ℕ) → AllByRecursion IsQuotable v → bytes ≡ escaped v ++ 34 ∷ r → ⊥
-quoted-open bytes rest value so is =
-    quoted-fails bytes rest value so (subst (StartsElse 34) (sym is) tt) (λ c more h e. escape-some c more (sym e ∙ is))
 
 -- ---- values
 
@@ -98,9 +90,6 @@ pub record LabelsSoFar (bytes rest : List ℕ) (labels : List LabelParts) : Type
       → (all : List Written) × AreWritten all × (put_in labels ws ≡ in_order all) × (bytes ≡ label_words all)
   pub left : (ws : List Written) → AreWritten ws → bytes ≡ label_words ws
       → (others : List Written) × MayFollow labels others × (rest ≡ label_words others)
-
-pub labels-none : (bytes : List ℕ) → LabelsSoFar bytes bytes []
-labels-none bytes = record { made = λ ws h e. (ws, h, refl, e); left = λ ws h e. (ws, h, e) }
 
 pub labels-more : (bytes rest after : List ℕ) (labels : List LabelParts) (w : Written) → LabelsSoFar bytes rest labels
     → IsWritten w → LacksKey w.key labels → HasRoom labels → rest ≡ label_word w ++ after → StartsAt 32 after

@@ -71,9 +71,6 @@ to-sorted n (m ∷ ms) rise (suc k) d low small =
     let later : suc (k + 1) ≡ suc k + 1 = omega arith in
     subst (λ j. IsUp (get_or (m ∷ ms) k d) (get_or (n ∷ m ∷ ms) j d)) later (to-sorted m ms rise.1 k d (omega arith) (omega (arith, small)))
 
-pub none-sorted : IsSorted label_cmp []
-none-sorted k d low small = absurd (omega (arith, small))
-
 pub placed-sorted : (l : LabelParts) (ms : List LabelParts) → IsSorted label_cmp ms → IsSorted label_cmp (placed l ms)
 placed-sorted l [] up = to-sorted l [] tt
 placed-sorted l (m ∷ ms) up =

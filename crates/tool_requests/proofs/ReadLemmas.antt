@@ -1,6 +1,6 @@
 -- What the parts of a line are read as.
 use Rattle.std.proofs.Common.{◌≡◌, ◌∙◌, ℕ, zero, suc, ◌<◌, ◌≤◌, ◌^◌, Bool, true, false, List, [], ◌∷◌, ◌++◌, codes, decimal, drop, take, get_or, length, append_assoc, refl, ap, sym, subst, arith}
-use Rattle.std.specs.Prelude.{All, Option, Some, Result, Ok, Err, MatchResult, IsUtf8}
+use Rattle.std.specs.Prelude.{Option, Some, Result, Ok, Err, MatchResult, IsUtf8}
 use Rattle.std.specs.List.{AllByRecursion}
 use Rattle.metrics_names.specs.Names.{LabelParts, name_word, kind_word}
 use Rattle.metrics_names.specs.declared.kind.MetricKind.{MetricKind}
@@ -17,17 +17,12 @@ use Rattle.tool_grammar.proofs.CallLemmas.{name_same}
 use Rattle.tool_requests.specs.declared.flaws.Unread.{Unread}
 use Rattle.tool_requests.specs.declared.flaws.Unread.TheVariants.{Memory, Bad}
 use Rattle.tool_requests.specs.declared.requests.Request.TheVariants.{Change, Describe, Scrape}
-use Rattle.tool_requests.specs.Lines.{escape, escaped, IsQuotable, IsText, IsOfName, IsName, CanBeValue, value_word, Written, IsWritten}
+use Rattle.tool_requests.specs.Lines.{escape, escaped, IsQuotable, IsText, IsName, CanBeValue, value_word, Written, IsWritten}
 use Rattle.tool_requests.specs.Lines.{label_word, label_words, LacksKey, HasRoom, AreWritten, in_order, with_labels, change, describe, scrape, Reads, Fails}
 use Rattle.tool_requests.proofs.EscapeLemmas.{escaped-same, starts-else}
 use Rattle.tool_requests.proofs.LabelLemmas.{QuotedSoFar, quoted-fails, LabelsSoFar, labels-fail, starts-words}
 use Rattle.tool_requests.proofs.SentenceLemmas.{lacks_name}
 use Rattle.tool_requests.proofs.WordLemmas.{visible-text}
-
--- what holds is known of any error
-pub certain : {P : Type 0} (e : Unread) → P → Fails P e
-certain Memory p = tt
-certain (Bad cause at) p = p
 
 -- ---- values
 
@@ -122,16 +117,6 @@ pub note-read : {T : Type 0} (bytes word : List ℕ) (now : T → List ℕ) (r :
 note-read bytes word now (Ok t) is (h, same) = (subst IsText (sym same) h, is ∙ ap (λ z. 32 ∷ z) (sym same))
 note-read bytes word now (Err Memory) is none = tt
 note-read bytes word now (Err (Bad cause at)) is none = λ text h e. none (subst IsText (ap (drop 1) (sym e ∙ is)) h)
-
--- ---- names
-
-dash-fits : All IsOfName (codes "-")
-dash-fits = λ k d small. (grind arith, grind arith, grind arith, grind arith, grind arith)
-
--- a text with other characters than a name has spells none
-pub no-other-name : (text name : List ℕ) → (All IsOfName text → ⊥) → IsName name → text ≡ name_word name → ⊥
-no-other-name text [] other h e = other (subst (All IsOfName) (sym e) dash-fits)
-no-other-name text (x ∷ xs) other h e = other (subst (All IsOfName) (sym e) h.3)
 
 -- ---- words after a space
 

@@ -1,15 +1,13 @@
 -- What is added, one after another.
-use Rattle.std.proofs.Common.{◌≡◌, ◌∙◌, ℕ, ◌+◌, ◌<◌, ◌^◌, codes, decimal, Result, Ok, Err, OnOk, Bool, true, false, cond, List, [], ◌∷◌, ◌++◌, map, take, length, get_or, string_bytes, Option, None, Some, inl, inr, refl, ap, sym, subst, arith, append_assoc, append-nil, length-append, bytes_eq}
-use Rattle.std.specs.Prelude.{◌&&◌, ◌⊎◌}
+use Rattle.std.proofs.Common.{◌≡◌, ◌∙◌, ℕ, ◌+◌, ◌<◌, ◌^◌, codes, decimal, Result, Ok, Err, OnOk, List, [], ◌∷◌, ◌++◌, map, take, length, get_or, string_bytes, Option, None, Some, inl, inr, refl, ap, sym, subst, arith, append_assoc, append-nil, length-append}
+use Rattle.std.specs.Prelude.{◌⊎◌}
 use Rattle.std.specs.List.{AllByRecursion}
-use Rattle.std.specs.Cmp.Lexicographic.{bytes_decides}
 use Rattle.std.proofs.lemmas.Grind.{flat_map-append}
 use Rattle.std.proofs.lemmas.List.{map-append, take_more}
 use Rattle.metrics_names.specs.declared.common.Unit.{Unit as Measure}
 use Rattle.metrics_names.specs.declared.kind.MetricKind.{MetricKind}
-use Rattle.metrics_names.specs.Names.{KeyParts, kind_eq}
-use Rattle.metrics_names.specs.Equality.{kind_eq-Decides}
-use Rattle.metrics.specs.Book.{no_description, described_again}
+use Rattle.metrics_names.specs.Names.{KeyParts}
+use Rattle.metrics.specs.Book.{no_description}
 use Rattle.metrics_descriptions.specs.declared.descriptions.Described.{Described}
 use Rattle.metrics_descriptions.specs.declared.descriptions.Descriptions.{Descriptions}
 use Rattle.metrics_exporter.specs.declared.exporter.Exporter.{Exporter}
@@ -25,7 +23,7 @@ use Rattle.tool_state.specs.declared.body.Body.{Body}
 use Rattle.tool_state.specs.Runs.{Run}
 use Rattle.tool_state.specs.State.{Entry, StateLine, IsLine, IsLineOf, lines_text, state_text, entries_of, calls_by, calls_of, legend_of}
 use Rattle.tool_state.specs.Held.{recorded, BoundsBy, MakesAt, MakeReading, MakeReadings, IsStateOf}
-use Rattle.tool_state.specs.Written.{Adds, AddsNotes, AddsReadings, TellsSame, TellsSo, KeepsSo, KeepsSame}
+use Rattle.tool_state.specs.Written.{Adds, AddsNotes, AddsReadings, TellsSame, KeepsSo, KeepsSame}
 use Rattle.tool_state.proofs.EntryLemmas.{legend-append, lines-append, are-append}
 
 -- ---- lines
@@ -112,29 +110,6 @@ notes-both r s t a b c (xs, first, none, told) (ys, later, nothing, tells) = (
       let on : described_by s ≡ legend_of xs (described_by r) = λ i k n. told k n i in
       tells kind name ∙ ap (λ l. legend_of ys l kind name) on ∙ ap (λ l. l kind name) (sym (legend-append xs ys (described_by r))),
 )
-
-module _ (kind : MetricKind) (name : List ℕ) (unit : Option Measure) (text : List ℕ) (s t : Descriptions)
-    (tells : (k : MetricKind) (n : List ℕ) → described_by t k n ≡ legend_described kind name unit text (described_by s) k n) where
-  -- a new description of a name that had none
-  pub told-so : described_by s kind name ≡ no_description → TellsSo t kind name unit text
-  told-so untold =
-      tells kind name
-      ∙ ap (λ b. cond (b && bytes_eq name name) (described_again unit text (described_by s kind name)) (described_by s kind name)) ((kind_eq-Decides kind kind).1 refl)
-      ∙ ap (λ b. cond b (described_again unit text (described_by s kind name)) (described_by s kind name)) ((bytes_decides name name).1 refl)
-      ∙ ap (described_again unit text) untold ∙ new unit
-    where
-      new : (u : Option Measure) → described_again u text no_description ≡ record { unit = u; text = Some text }
-      new None = refl
-      new (Some u) = refl
-
-  pub keeps-so : KeepsSo s t kind name
-  keeps-so k n = go (kind_eq kind k) (bytes_eq name n) refl refl
-    where
-      go : (b c : Bool) → kind_eq kind k ≡ b → bytes_eq name n ≡ c → (described_by t k n ≡ described_by s k n) ⊎ ((k ≡ kind) × (n ≡ name))
-      go true true e f = inr (sym ((kind_eq-Decides kind k).0 e), sym ((bytes_decides name n).0 f))
-      go true false e f = inl (tells k n ∙ ap (λ b. cond (b && bytes_eq name n) (described_again unit text (described_by s k n)) (described_by s k n)) e
-          ∙ ap (λ b. cond b (described_again unit text (described_by s k n)) (described_by s k n)) f)
-      go false c e f = inl (tells k n ∙ ap (λ b. cond (b && bytes_eq name n) (described_again unit text (described_by s k n)) (described_by s k n)) e)
 
 -- what had the description of `on` has it still
 pub keeps-same : (kind : MetricKind) (name : List ℕ) (s t on : Descriptions) → KeepsSo s t kind name → TellsSame t on kind name → KeepsSame s t on

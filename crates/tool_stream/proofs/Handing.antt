@@ -1,7 +1,7 @@
 -- Parts of a text that were written, and what waits after them.
-use Rattle.std.proofs.Common.{◌≡◌, ℕ, List, [], ◌++◌, Option, OnOk, Result, Ok, Err, refl, sym, ap, ◌∙◌, append_assoc, append-nil}
+use Rattle.std.proofs.Common.{◌≡◌, ℕ, List, [], ◌++◌, Option, OnOk, Result, Ok, Err, sym, ap, ◌∙◌, append_assoc, append-nil}
 use Rattle.std.specs.Io.KnownBytes.{Appends}
-use Rattle.std.proofs.KnownBytes.{Appends-nil, Appends-trans}
+use Rattle.std.proofs.KnownBytes.{Appends-trans}
 use Rattle.tool_stream.specs.declared.stream.Broken.{Broken}
 use Rattle.tool_stream.specs.declared.stream.Fault.{Fault}
 use Rattle.tool_stream.specs.declared.stream.Fault.TheVariants as faults
@@ -10,20 +10,6 @@ use Rattle.tool_stream.specs.Waiting.{HandsOn, LosesSome, Writes, WritesBeside}
 -- what a call of `write_text` ensures
 abbrev pub WroteFront : Option (List ℕ) → Option (List ℕ) → List ℕ → Result (Unit {0}) Broken → Type 0
 WroteFront x y text r = (done : List ℕ) × (more : List ℕ) × (text ≡ done ++ more) × Appends x y done × OnOk r (more ≡ [])
-
--- nothing was written, and all waits
-pub put_at_once : (x : Option (List ℕ)) (text waits : List ℕ) → waits ≡ text → HandsOn x x text waits
-put_at_once x text waits e = ([], sym e, Appends-nil x)
-
--- the writer failed before the text
-pub put_lost : (x y : Option (List ℕ)) (waiting text waits : List ℕ) → LosesSome x y waiting waits → LosesSome x y (waiting ++ text) waits
-put_lost x y waiting text waits (front, lost, is, wrote) =
-    (front, lost ++ text, ap (λ k. k ++ text) is ∙ append_assoc front (waits ++ lost) text ∙ ap (λ k. front ++ k) (append_assoc waits lost text), wrote)
-
--- the text waits after what was left
-pub put_again : (x y : Option (List ℕ)) (waiting text left waits : List ℕ) → HandsOn x y waiting left → waits ≡ left ++ text → HandsOn x y (waiting ++ text) waits
-put_again x y waiting text left waits (front, is, wrote) e =
-    (front, ap (λ k. k ++ text) is ∙ append_assoc front left text ∙ ap (λ k. front ++ k) (sym e), wrote)
 
 -- it was written after what was left, which was nothing
 pub put_written : (x y z : Option (List ℕ)) (waiting text left waits : List ℕ) (r : Result (Unit {0}) Broken) → HandsOn x y waiting left → left ≡ [] → waits ≡ left → WroteFront y z text r → Writes x z (waiting ++ text) waits r
@@ -41,18 +27,8 @@ put_written x y z waiting text left waits (Err e) (front, is, wrote) none same (
   Appends-trans x y z _ _ wrote wrote',
 )
 
--- what waited was written, and nothing waits
-pub out_written : (x y : Option (List ℕ)) (waiting waits : List ℕ) (r : Result (Unit {0}) Broken) → waits ≡ [] → WroteFront x y waiting r → Writes x y waiting waits r
-out_written x y waiting waits (Ok u) none (done, more, split, wrote, all) = (done, split ∙ ap (λ k. done ++ k) (all ∙ sym none), wrote)
-out_written x y waiting waits (Err e) none (done, more, split, wrote, all) = (done, more, split ∙ ap (λ k. done ++ (k ++ more)) (sym none), wrote)
-
 -- beside a read
 module _ {A : Type 0} where
-  pub untouched : (x : Option (List ℕ)) (waiting : List ℕ) (r : Result A Fault) → WritesBeside x x waiting waiting r
-  untouched x waiting (Ok found) = ([], refl, Appends-nil x)
-  untouched x waiting (Err faults.Memory) = ([], refl, Appends-nil x)
-  untouched x waiting (Err faults.Device) = ([], [], sym (append-nil waiting), Appends-nil x)
-
   pub handed : (x y : Option (List ℕ)) (waiting waits : List ℕ) (r : Result A Fault) → HandsOn x y waiting waits → WritesBeside x y waiting waits r
   handed x y waiting waits (Ok found) h = h
   handed x y waiting waits (Err faults.Memory) h = h
