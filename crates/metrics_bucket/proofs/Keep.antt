@@ -86,9 +86,6 @@ module _ (places all : ℕ) (w : BucketState) (f : Facts places all w) where
   pub turn_alone : (id : ℕ) (v : View) → get_elem? w.views id ≡ some v → turn_in v.hold ≡ 1 → (j : ℕ) (u : View) → j ≢ id → get_elem? w.views j ≡ some u → turn_in u.hold ≡ 0
   turn_alone id v at mine j u n there = let t = total_two turn_of w.views id j v u (λ z. n (sym z)) at there in let a = f.turns in let b = f.one_turn in omega arith
 
-  pub turn_free : w.turn ≡ 0 → (j : ℕ) (u : View) → get_elem? w.views j ≡ some u → turn_in u.hold ≡ 0
-  turn_free z j u there = let t = total_one turn_of w.views j u there in let a = f.turns in omega arith
-
 module _ (places all : ℕ) (w w' : BucketState) where
   visit_kept : (s i : ℕ) (c : Visit)
       → (get_or w.marks (place_index places s i) 0 ≡ 1 → (get_or w'.marks (place_index places s i) 0 ≡ 1) × (get_or w'.values (place_index places s i) 0 ≡ get_or w.values (place_index places s i) 0))

@@ -27,9 +27,6 @@ use Rattle.metrics_bucket.proofs.PlacedPushes.{tickets, writes, finishes}
 use Rattle.metrics_bucket.proofs.PlacedTakes.{takes_side}
 use Rattle.metrics_bucket.proofs.PlacedWalks.{wipes, leaves_clear, leaves_read, reads_push}
 
-none_here : (i : ℕ) → below i 0 ≡ 0
-none_here i = refl
-
 get_zero : (n k : ℕ) → get_or (zeros n) k 0 ≡ 0
 get_zero zero k = refl
 get_zero (suc n) zero = refl

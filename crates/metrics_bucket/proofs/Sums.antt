@@ -1,5 +1,5 @@
 -- Sums over views, weights of lists, and places.
-use Rattle.std.proofs.Common.{◌≡◌, ◌≢◌, ◌⊎◌, ℕ, zero, suc, ◌+◌, ◌<◌, ◌≤◌, List, [], ◌∷◌, ◌++◌, length, get_or, set, replicate, refl, sym, ap, inl, inr, ⊎_elim, arith, eq-eqb, ne_eqb}
+use Rattle.std.proofs.Common.{◌≡◌, ◌≢◌, ◌⊎◌, ℕ, zero, suc, ◌+◌, ◌<◌, ◌≤◌, List, [], ◌∷◌, ◌++◌, length, get_or, set, replicate, refl, sym, ap, inl, inr, arith, eq-eqb, ne_eqb}
 use mathlib.Core.Logic.{dite}
 use mathlib.Core.Option.{some, some-injective, some-ne-none}
 use native.Mathlib.Decide.{ℕ_discrete}
@@ -93,9 +93,6 @@ same_here s i s' i' p q = rw (eq-eqb s s' p) (rw (eq-eqb i i' q) refl)
 
 pub same_else : (s i s' i' : ℕ) → (s ≡ s' → i ≡ i' → ⊥) → same s i s' i' ≡ 0
 same_else s i s' i' n = dite (ℕ_discrete s s') (λ p. rw (eq-eqb s s' p) (rw (ne_eqb i i' (λ q. n p q)) refl)) (λ p. rw (ne_eqb s s' p) refl)
-
-pub same_le : (s i s' i' : ℕ) → same s i s' i' ≤ 1
-same_le s i s' i' = ⊎_elim (λ (t : (s ≡ s') × (i ≡ i')). let e = same_here s i s' i' t.0 t.1 in omega arith) (λ (n : s ≡ s' → i ≡ i' → ⊥). let e = same_else s i s' i' n in omega arith) (here_or s i s' i')
 
 pub below_under : (i n : ℕ) → i < n → below i n ≡ 1
 below_under i zero l = absurd (omega arith)

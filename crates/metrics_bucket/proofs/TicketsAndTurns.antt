@@ -10,7 +10,7 @@ use Rattle.metrics_bucket.specs.declared.view.Hold.{Hold}
 use Rattle.metrics_bucket.specs.declared.view.Hold.TheVariants.{Nothing, Ticket, Written, Claimed, SideKnown, Reading, Clearing, Settling}
 use Rattle.metrics_bucket.specs.declared.view.Visit.{Visit}
 use Rattle.metrics_bucket.specs.declared.view.Visit.TheVariants.{Marked, Read, Wiped}
-use Rattle.metrics_bucket.specs.BucketState.{BucketState, total, walks_of, walks_made, place_index, side_of, put_visit, values_in, walk, leaving, left_from, left_part, right_part, both_parts, new_view, push, holding, holding_at, Act, look, look_to_settle, ticket, write, finish, claim, look_at_turn, look_to_read, look_to_clear, takes, see, read, wipe, leave, quit, split, join, view_after, state_after}
+use Rattle.metrics_bucket.specs.BucketState.{BucketState, total, walks_of, walks_made, place_index, side_of, put_visit, values_in, walk, leaving, left_from, left_part, right_part, both_parts, new_view, push, holding_at, Act, look, look_to_settle, ticket, write, finish, claim, look_at_turn, look_to_read, look_to_clear, takes, see, read, wipe, leave, quit, split, join, view_after, state_after}
 use Rattle.metrics_bucket.specs.Facts.{same, turn_in, turn_of, Facts}
 use Rattle.metrics_bucket.specs.Places.{held_in, pushed_at, tickets_at, clearing_of, told_of, given_of, Placed}
 use Rattle.metrics_bucket.specs.History.{CanLeave, CanQuit, May, Event, Runs}
@@ -58,9 +58,6 @@ left_tickets e i v (Written s k x) c = absurd c
 left_tickets e i v Claimed c = absurd c
 left_tickets e i v (SideKnown s) c = absurd c
 left_tickets e i v (Settling s xs) c = absurd c
-
-walks_put : (v : View) (hold : Hold) → walks_of (holding v hold) ≡ walks_of v
-walks_put v hold = refl
 
 pub walks_left : (v : View) (hold : Hold) → CanLeave hold → (turn_in hold ≡ 1) × (walks_of (left_from v hold) ≡ walks_of v + 1)
 walks_left v (Reading s visits) c = (refl, (let a = length-append v.read (walk v.epoch (values_in visits) ∷ []) in omega arith))

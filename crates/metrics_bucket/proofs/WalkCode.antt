@@ -1,10 +1,6 @@
 -- What the code of a walk knows of its seat.
 use Rattle.std.proofs.Common.{◌≡◌, ◌≢◌, ◌⊎◌, ℕ, zero, suc, ◌+◌, ◌-◌, ◌*◌, ◌<◌, ◌≤◌, List, [], ◌∷◌, ◌++◌, length, get_or, set, take, drop, map, replicate, refl, sym, ap, ◌∙◌, subst, inl, inr, ⊎_elim, arith, min, length-set, get_or-set_same}
 use Rattle.std.specs.List.{FoldsTo}
-use denote.Param.Members.{Called}
-use Rattle.std.specs.Fn.{CalledAt}
-use denote.Ref.{Bor}
-use denote.Param.Members.{Mut}
 use Rattle.std.proofs.lemmas.Grind.{take-set_at}
 use mathlib.Core.Logic.{dite}
 use mathlib.Core.List.{map-append}
@@ -217,9 +213,6 @@ calls_more {P} {T} R value V W c chunks m p q u x is below e f r shown =
     (λ i. valued value (before i) ++ shown i ∷ []) ∙ (sym (map-append (map value) (chunks_from (suc c) k W) (chunk c W ∷ [])) ∙ (ap (valued value) (sym (chunks_front W c k)) ∙ (λ i. valued value (chunks_from c (sym count i) W))))
     in
     subst (λ (l : List (List T)). FoldsTo R p l u) all (folds_more R p (valued value (chunks_from chunks k V)) q x u f r)
-
-pub called_at : {F A R : Type 0} (g : Mut F (Bor A × Unit {0}) R) (f : F) (b : Bor A) (r : R) (f' : F) → Called g f (b, tt) r f' → CalledAt g f b.now r f'
-called_at g f b r f' c = record { shown = b; shows = refl; called = c }
 
 pub one_minus : (s : ℕ) → s < 2 → 1 - s ≡ other s
 one_minus zero l = omega arith

@@ -1,5 +1,5 @@
 -- A change of one cell keeps the agreement, and changes one series.
-use Rattle.std.proofs.Common.{◌≡◌, ℕ, zero, suc, ◌+◌, ◌<◌, ◌≤◌, Bool, true, cond, List, [], ◌∷◌, ◌++◌, length, map, set, Some, Result, Ok, Err, refl, ap, sym, ◌∙◌, subst, arith, add-one, slice_get, option_map}
+use Rattle.std.proofs.Common.{◌≡◌, ℕ, zero, suc, ◌+◌, ◌≤◌, Bool, true, cond, List, [], ◌∷◌, length, map, set, Some, Result, Ok, Err, refl, ap, sym, ◌∙◌, subst, arith, add-one, slice_get, option_map}
 use Rattle.std.specs.Prelude.{MatchResult}
 use Rattle.metrics_names.specs.declared.kind.MetricKind.{MetricKind}
 use Rattle.metrics_names.specs.declared.refused.Refused.{Refused}
@@ -11,12 +11,11 @@ use Rattle.metrics.specs.declared.handles.Update.{Update}
 use Rattle.metrics.specs.Book.{Series, new_series, new_value, kind_of, with_update, resets, after_reset, active_at}
 use Rattle.metrics.specs.Meaning.{is_kind}
 use Rattle.metrics.specs.Targets.{change_at}
-use Rattle.metrics_debugging.specs.declared.debugging.cells.Cell.{Cell}
 use Rattle.metrics_debugging.specs.declared.debugging.series.Stored.{Stored}
 use Rattle.metrics_debugging.specs.DebuggingCells.{value_of, kind_of_value, UpdatesValue}
 use Rattle.metrics_debugging.specs.DebuggingSeries.{Numbers, spot, key_at, series_at, all_series, is_active, Agrees}
 use Rattle.metrics_debugging.specs.DebuggingUpdates.{UpdatesAt, is_held}
-use Rattle.metrics_debugging.proofs.AgreesLemmas.{by_test, kind-new, kinds-order}
+use Rattle.metrics_debugging.proofs.AgreesLemmas.{by_test, kinds-order}
 
 -- ---- lists
 
@@ -73,16 +72,6 @@ past-active (x ∷ xs) zero past = absurd (omega (arith, past))
 past-active (x ∷ xs) (suc n) past = ap (λ ys. x ∷ ys) (past-active xs n (omega (arith, past)))
 
 -- ---- a change of one cell
-
--- a reset cell is of its kind still
-pub kind-reset : (was now : Cell) (reset : Reset) → value_of now ≡ cond (resets reset (kind_of_value (value_of was))) (new_value (kind_of_value (value_of was))) (value_of was)
-    → kind_of_value (value_of now) ≡ kind_of_value (value_of was)
-kind-reset was now reset e =
-    let k = kind_of_value (value_of was) in
-    ap kind_of_value e
-    ∙ by_test (resets reset k)
-    (λ t. ap (λ b. kind_of_value (cond b (new_value k) (value_of was))) t ∙ kind-new k)
-    (λ t. ap (λ b. kind_of_value (cond b (new_value k) (value_of was))) t)
 
 module _ (numbers : Numbers) (stored : List Stored) (s : ℕ) (x y : Stored) (at : slice_get stored s ≡ Some x) (same : spot y ≡ spot x) where
   pub agree-changed : Agrees numbers (map spot stored) → Agrees numbers (map spot (set stored s y))

@@ -8,7 +8,7 @@ use Rattle.metrics_bucket.specs.Account.{Account, looked_at}
 use Rattle.metrics_bucket.specs.Facts.{weigh_pushes, weigh_walks}
 use Rattle.metrics_bucket.proofs.Shares.{weigh_walks-both}
 use Rattle.metrics_bucket.proofs.Sums.{weigh_pushes-append}
-use Rattle.metrics_growing.specs.Parts.{Part, Keeps, HasOnlyLooked, OnlyLooks, PassedIn, OneOf, LastMet, PushedIn, PushedByTries, FirstHeld, FoundHeld, TookAll, left_parts, right_parts, joined_parts}
+use Rattle.metrics_growing.specs.Parts.{Part, Keeps, HasOnlyLooked, OnlyLooks, PassedIn, OneOf, LastMet, PushedIn, PushedByTries, FirstHeld, FoundHeld, TookAll, joined_parts}
 use Rattle.metrics_growing.specs.Bags.{sum_of, pushed_in, taken_in, pushed_by, taken_by}
 use Rattle.metrics_growing.proofs.Chains.{tries_look, met_looks}
 use Rattle.metrics_growing.proofs.Settling.{sum_both, keeps_sum, took_sums}
@@ -121,14 +121,6 @@ took_all_sums h ps walks rs (qs, k, n, t) =
     let b = took_sums h qs walks rs t in
     let c = a.0 in let d = a.1 in let e = b.0 in let f = b.1 in
     (omega arith, omega arith)
-
-pub left_sums : (h : ℕ → ℕ) (ps : List Part) → (pushed_by h (left_parts ps) ≡ pushed_by h ps) × (taken_by h (left_parts ps) ≡ taken_by h ps)
-left_sums h [] = (omega arith, omega arith)
-left_sums h (p ∷ ps) = (omega arith, omega arith)
-
-pub right_sums : (h : ℕ → ℕ) (ps : List Part) → (pushed_by h (right_parts ps) ≡ 0) × (taken_by h (right_parts ps) ≡ 0)
-right_sums h [] = (omega arith, omega arith)
-right_sums h (p ∷ ps) = (omega arith, omega arith)
 
 -- a pen that joins another has the multisets of both
 pub joined_sums : (h : ℕ → ℕ) (ps qs : List Part) → (pushed_by h (joined_parts ps qs) ≡ pushed_by h ps + pushed_by h qs) × (taken_by h (joined_parts ps qs) ≡ taken_by h ps + taken_by h qs)

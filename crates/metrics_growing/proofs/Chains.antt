@@ -1,7 +1,7 @@
 -- The parts of a pen against the names of the links, and what calls do to them.
 use Rattle.std.proofs.Common.{◌≡◌, ◌≢◌, ◌⊎◌, ℕ, zero, suc, ◌+◌, ◌<◌, ◌≤◌, List, [], ◌∷◌, ◌++◌, length, take, map, get_or, set, refl, sym, ap, subst, ◌∙◌, inl, inr, ⊎_elim, arith, append-nil, append_assoc}
 use Rattle.std.proofs.lemmas.List.{length-set, length_push}
-use Rattle.std.proofs.lemmas.List.Elements.{All-append, All-nil, All-cons, All-push, All-head, All-tail}
+use Rattle.std.proofs.lemmas.List.Elements.{All-nil, All-cons, All-push, All-head, All-tail}
 use Rattle.std.specs.List.{All, FoldsTo}
 use Rattle.std.specs.Prelude.{Result, Ok, Err, IfOk, IfErr}
 use Rattle.metrics.specs.declared.error.Error.{Error}
@@ -65,12 +65,6 @@ homes_set (r ∷ ps) (suc at) p q pe qe = ap (λ (xs : List Home). home_of r ∷
 -- what is done to a pen
 pub keeps_same : (ps : List Part) → Keeps ps ps
 keeps_same ps = ([], sym (append-nil ps), All-nil IsNew)
-
-pub keeps_met : (ps qs : List Part) (p : Part) → qs ≡ ps ++ p ∷ [] → IsNew p → Keeps ps qs
-keeps_met ps qs p e new = (p ∷ [], e, All-push IsNew [] p (All-nil IsNew) new)
-
-pub keeps_trans : (ps qs rs : List Part) → Keeps ps qs → Keeps qs rs → Keeps ps rs
-keeps_trans ps qs rs (xs, e, a) (ys, f, b) = (xs ++ ys, f ∙ (ap (λ (zs : List Part). zs ++ ys) e ∙ append_assoc ps xs ys), All-append IsNew xs ys a b)
 
 -- parts in which a pen looked
 looked_same : (p : Part) → LookedIn p p
@@ -411,15 +405,6 @@ pub of_front : (links : List ℕ) (ps qs : List Part) → IsOf links (ps ++ qs) 
 of_front links [] qs e = refl
 of_front [] (p ∷ ps) qs e = let n = ap is_cons e in absurd (omega arith)
 of_front (x ∷ links) (p ∷ ps) qs e = let t = of_front links ps qs (ap tail_of e) in λ i. ap head_of e i ∷ t i
-
-pub joined_length : (ps qs : List Part) → (length ps ≤ length (joined_parts ps qs)) × (length qs ≤ length (joined_parts ps qs)) × ((length (joined_parts ps qs) ≡ length ps) ⊎ (length (joined_parts ps qs) ≡ length qs))
-joined_length [] qs = (omega arith, omega arith, inr refl)
-joined_length (p ∷ ps) [] = (omega arith, omega arith, inl refl)
-joined_length (p ∷ ps) (q ∷ qs) =
-    let r = joined_length ps qs in
-    let a = r.0 in
-    let b = r.1 in
-    (omega arith, omega arith, ⊎_elim (λ (e : length (joined_parts ps qs) ≡ length ps). inl (ap suc e)) (λ (e : length (joined_parts ps qs) ≡ length qs). inr (ap suc e)) r.2)
 
 pub joined_none : (ps : List Part) → joined_parts ps [] ≡ ps
 joined_none [] = refl

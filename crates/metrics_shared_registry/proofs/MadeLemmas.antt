@@ -37,13 +37,6 @@ module _ {K C : Type 0} {eq : K → K → Bool} (laws : IsEquivalence eq) (Makes
         (λ f. made q c (cond-false (eq q e.0) (Some e.1) (lookup (eq q) es) f ∙ is))),
   )
 
-  -- one key has another cell, which was made for it, or none
-  pub made-set : (old new : List (K × C)) (key : K) (w : Option C) → AreMade eq Makes old → ((c : C) → w ≡ Some c → IsMadeFor eq Makes key c) → Sets eq key w old new → AreMade eq Makes new
-  made-set old new key w made here sets q c is =
-      by_answer (eq key q)
-      (λ t. made-equal key q c t (here c (sym (cond-true (eq key q) w (held eq old q) t) ∙ (sym (sets q) ∙ is))))
-      (λ f. made q c (sym (cond-false (eq key q) w (held eq old q) f) ∙ (sym (sets q) ∙ is)))
-
   -- the cell that a call found, or that was added for it
   pub made-call : (key : K) (found : Option C) (cell before : C) → ((c : C) → found ≡ Some c → IsMadeFor eq Makes key c) → Makes key cell → IsCellOf (λ c. c ≡ cell) found before → IsMadeFor eq Makes key before
   made-call key None cell before here new is = subst (λ x. IsMadeFor eq Makes key x) (sym is) (key, laws.refl key, new)
@@ -61,13 +54,6 @@ module _ {K C : Type 0} {eq : K → K → Bool} (laws : IsEquivalence eq) (Makes
   -- those that are kept
   pub made-kept : {F : Type 0} (call : F → K × C → Bool → F → Type 0) (f last : F) (old new : List (K × C)) → IsDistinct eq (keys_of old) → AreMade eq Makes old → Retains call f old new last → AreMade eq Makes new
   made-kept call f last old new distinct made was = made-found new (each-kept call f last old new (each-made old distinct made) was)
-
-  -- a key has a cell and then none
-  pub made-removed : (old mid new : List (K × C)) (key : K) (w : Option C) → AreMade eq Makes old → Sets eq key w old mid → Sets eq key None mid new → AreMade eq Makes new
-  made-removed old mid new key w made first second q c is =
-      by_answer (eq key q)
-      (λ t. cc (cond-true (eq key q) None (held eq mid q) t, second q, is))
-      (λ f. made q c (sym (cond-false (eq key q) w (held eq old q) f) ∙ (sym (first q) ∙ (sym (cond-false (eq key q) None (held eq mid q) f) ∙ (sym (second q) ∙ is)))))
 
   held-same : (es : List (K × C)) (x y : K) → eq x y ≡ true → held eq es x ≡ held eq es y
   held-same [] x y e = refl
