@@ -1,4 +1,4 @@
-//! Tests of `tool_lines`, `tool_prometheus`, `tool_storm` and `metrics_textfile`, through what they re-export.
+//! Tests of `tool_lines`, `tool_prometheus`, `tool_requests`, `tool_storm` and `metrics_textfile`.
 #![tactic(auto)]
 
 #[cfg(test)]
@@ -9,6 +9,8 @@ mod expositions;
 mod limits;
 #[cfg(test)]
 mod lines;
+#[cfg(test)]
+mod rooms;
 #[cfg(test)]
 mod storms;
 #[cfg(test)]

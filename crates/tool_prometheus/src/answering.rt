@@ -206,6 +206,7 @@ fn answer_scrape<S: Surroundings>(
         × OnOk result (string_bytes text.new ≡ string_bytes text.old ++ whole) }
 {
     watch.tell_bad(around);
+    watch.room.forget_series();
     let now = moment_of(around, moment);
     let shown = shown_at(alloc, on, now);
     hand_out_shown(on, around, watch, shown, text)

@@ -18,6 +18,7 @@ use tool_stream::{LineMachine, Unanswered, flush, run_lines_leaving, write_text}
 
 /// Returns what a line asks for, and reports what the text spells otherwise. A bad line is skipped, and asks for nothing; or it
 /// is an error.
+#[tactic(auto, using(crate::proofs::AskedLemmas::asks_none))]
 fn take_line<const SKIPS: bool, S: Surroundings>(
     alloc: Global,
     on: &mut (Served, S),
@@ -31,7 +32,9 @@ fn take_line<const SKIPS: bool, S: Surroundings>(
     watch.count();
     match named_request_of(alloc, &on.0.dialect, &on.0.rules, &mut watch.room, line) {
         Ok(request) => {
-            watch.tell_spelled(&mut on.1, &request);
+            if !watch.room.knew_series() {
+                watch.tell_spelled(&mut on.1, &request);
+            }
             on.0.counts = on.0.counts.with_line();
             note_names(&mut on.0, &request);
             Ok(request)

@@ -1,3 +1,4 @@
+pub mod CacheLemmas
 pub mod CommonLemmas
 pub mod EscapeLemmas
 pub mod LabelLemmas

@@ -1,6 +1,6 @@
 -- Names by rules.
 use Rattle.std.proofs.Common.{◌≡◌, ◌∙◌, ℕ, List, [], ◌∷◌, refl, ap, sym}
-use Rattle.std.specs.Prelude.{Option, None, Some}
+use Rattle.std.specs.Prelude.{Option, None, Some, option_map}
 use Rattle.std.specs.Option.{option_or}
 use Rattle.std.specs.List.{FoldsTo}
 use Rattle.metrics_names.specs.Names.{KeyParts, LabelParts}
@@ -8,8 +8,7 @@ use Rattle.metrics_rules.specs.Visits.{shown}
 use Rattle.tool_requests.specs.declared.renaming.First.{First}
 use Rattle.tool_requests.specs.declared.requests.Request.{Request}
 use Rattle.tool_requests.specs.declared.requests.Request.TheVariants.{Change, Describe, Scrape, Nothing}
-use Rattle.tool_requests.specs.Names.{first_name, ruled_name, renamed}
-use Rattle.tool_requests.specs.Renaming.{first_found}
+use Rattle.tool_requests.specs.Names.{first_name, named_key, ruled_name, renamed}
 
 or-none : {A : Type 0} (o : Option A) → option_or o None ≡ o
 or-none None = refl
@@ -19,13 +18,14 @@ or-found : {A : Type 0} (o : Option A) (x : A) (later : Option A) → option_or 
 or-found None x later = refl
 or-found (Some y) x later = refl
 
--- a visitor that copies the first name
+-- a visitor that copies the first key
 pub first-found : (labels : List LabelParts) (v : First) (ts : List (ℕ × List ℕ)) (w : First)
-    → FoldsTo (shown (λ (v : First) (leaf : ℕ) (key : KeyParts) (w : First). first_found w ≡ option_or (first_found v) (Some key.name)) labels) v ts w
-    → first_found w ≡ option_or (first_found v) (first_name ts)
-first-found labels v [] w h = ap first_found (sym h) ∙ sym (or-none (first_found v))
+    → FoldsTo (shown (λ (v : First) (leaf : ℕ) (key : KeyParts) (w : First). w.found ≡ option_or v.found (Some key)) labels) v ts w
+    → w.found ≡ option_or v.found (option_map (named_key labels) (first_name ts))
+first-found labels v [] w h = ap (λ z. z.found) (sym h) ∙ sym (or-none v.found)
 first-found labels v (t ∷ ts) w (u, is, rest) =
-    first-found labels u ts w rest ∙ ap (λ o. option_or o (first_name ts)) is ∙ or-found (first_found v) t.1 (first_name ts)
+    first-found labels u ts w rest ∙ ap (λ o. option_or o (option_map (named_key labels) (first_name ts))) is
+    ∙ or-found v.found (named_key labels t.1) (option_map (named_key labels) (first_name ts))
 
 -- without rules each name stays
 pub stays_named : (request : Request) → request ≡ renamed (ruled_name None) request

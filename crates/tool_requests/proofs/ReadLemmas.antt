@@ -2,6 +2,8 @@
 use Rattle.std.proofs.Common.{◌≡◌, ◌∙◌, ℕ, zero, suc, ◌<◌, ◌≤◌, ◌^◌, Bool, true, false, List, [], ◌∷◌, ◌++◌, codes, decimal, drop, take, get_or, length, append_assoc, refl, ap, sym, subst, arith}
 use Rattle.std.specs.Prelude.{Option, Some, Result, Ok, Err, MatchResult, IsUtf8}
 use Rattle.std.specs.List.{AllByRecursion}
+use Rattle.std.proofs.lemmas.Str.{IsUtf8-from_ascii}
+use Rattle.std.proofs.lemmas.Str.Ascii.{IsAscii-from_all}
 use Rattle.metrics_names.specs.Names.{LabelParts, name_word, kind_word}
 use Rattle.metrics_names.specs.declared.kind.MetricKind.{MetricKind}
 use Rattle.metrics_names.specs.declared.common.Unit.{Unit as Measure}
@@ -22,7 +24,6 @@ use Rattle.tool_requests.specs.Lines.{label_word, label_words, LacksKey, HasRoom
 use Rattle.tool_requests.proofs.EscapeLemmas.{escaped-same, starts-else}
 use Rattle.tool_requests.proofs.LabelLemmas.{QuotedSoFar, quoted-fails, LabelsSoFar, labels-fail, starts-words}
 use Rattle.tool_requests.proofs.SentenceLemmas.{lacks_name}
-use Rattle.tool_requests.proofs.WordLemmas.{visible-text}
 
 -- ---- values
 
@@ -138,7 +139,8 @@ module _ (bytes word rest : List ℕ) (is : bytes ≡ 32 ∷ (word ++ rest)) (la
   no-name (Bad cause at) none = λ name r h sr e. none name h (same-word (name_word name) r (lacks_name name h) sr e).0
 
 text-name : (name : List ℕ) → IsName name → IsText (name_word name)
-text-name [] h = visible-text (codes "-") (λ k d small. grind arith)
+text-name [] h =
+    ((λ k d small. (grind arith, λ e. grind (arith, e))), IsUtf8-from_ascii (codes "-") (IsAscii-from_all (codes "-") (λ k d small. grind arith)))
 text-name (x ∷ xs) h = h.0
 
 pub no-name-text : (bytes others : List ℕ) (e : Unread) → bytes ≡ 32 ∷ others

@@ -2,6 +2,5 @@ pub mod Places
 pub mod Lines
 pub mod Parsed
 pub mod Names
-pub mod Renaming
 pub mod Scrapes
 pub mod Spelled

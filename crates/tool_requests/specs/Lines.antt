@@ -2,7 +2,7 @@
 use Rattle.std.specs.Prelude.{if◌then◌else◌, ◌≡◌, ◌≢◌, ℕ, ◌<◌, ◌≤◌, ◌^◌, Bool, true, false, List, [], ◌∷◌, ◌++◌, ◌⊎◌, All, IsUtf8, nat_eq, bytes_eq}
 use Rattle.std.specs.Prelude.{codes, decimal, flat_map, length, Option, None, Some}
 use Rattle.std.specs.List.{AllByRecursion, list_any}
-use Rattle.metrics_names.specs.Names.{LabelParts, name_word, kind_word}
+use Rattle.metrics_names.specs.Names.{KeyParts, LabelParts, name_word, kind_word}
 use Rattle.metrics_names.specs.declared.kind.MetricKind.{MetricKind}
 use Rattle.metrics_names.specs.declared.common.Unit.{Unit as Measure}
 use Rattle.metrics.specs.declared.handles.Update.{Update}
@@ -22,10 +22,6 @@ use Rattle.tool_requests.specs.declared.requests.Request.TheVariants.{Change, De
 -- no control character
 abbrev pub IsPlain : ℕ → Type 0
 IsPlain c = (32 ≤ c) × (c ≢ 127)
-
--- a visible character of ASCII
-abbrev pub IsVisible : ℕ → Type 0
-IsVisible c = (32 < c) × (c < 127)
 
 -- a text without control characters
 abbrev pub IsText : List ℕ → Type 0
@@ -126,6 +122,15 @@ with_labels (l ∷ common) own = with_labels common (with_label l own)
 abbrev pub value_of : List ℕ → List LabelParts → Option (List ℕ)
 value_of key [] = None
 value_of key (l ∷ labels) = if bytes_eq l.0 key then Some l.1 else value_of key labels
+
+-- what follows the amount in a line spells the series of the key, which has the common labels too
+abbrev pub SpellsSeries : List LabelParts → List ℕ → KeyParts → Type 0
+SpellsSeries common bytes key = (ws : List Written) × IsName key.name × AreWritten ws × (key.labels ≡ with_labels common (in_order ws))
+    × (bytes ≡ 32 ∷ (name_word key.name ++ label_words ws))
+
+-- each of these bytes spells the series of its key
+abbrev pub AreSpelled : List LabelParts → (ℕ → Option (List ℕ × KeyParts)) → Type 0
+AreSpelled common found = (number : ℕ) (s : List ℕ × KeyParts) → found number ≡ Some s → SpellsSeries common s.0 s.1
 
 -- ---- lines
 

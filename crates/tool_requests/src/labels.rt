@@ -1,6 +1,6 @@
 //! The labels of a line.
 ghost use Rattle.std.specs.Prelude.{◌≡◌, ◌≤◌, ℕ, List, [], ◌∷◌, ◌++◌, IsUtf8, true, false, insert};
-ghost use Rattle.std.specs.Prelude.{MatchBool, MatchResult, MatchOption, IfErr, IfOk, IfSome, OnOk, length};
+ghost use Rattle.std.specs.Prelude.{MatchBool, MatchResult, MatchOption, IfErr, IfOk, OnOk, length};
 ghost use Rattle.std.specs.Cmp.Lexicographic.{slice_cmp};
 ghost use Rattle.std.specs.List.{AllByRecursion};
 ghost use Rattle.std.specs.List.Sorted.{IsSorted};
@@ -15,7 +15,7 @@ ghost use Rattle.tool_requests.specs.Lines.{IsQuotable, LacksKey, HasRoom, with_
 ghost use Rattle.tool_requests.specs.declared.flaws.Unread.TheVariants.{Memory as NoMemory};
 
 use crate::flaws::{Cause, Unread};
-use crate::words::{is_plain, text_before, text_of, visible_before};
+use crate::words::{is_plain, text_before, text_of};
 use metrics::{Error, Label, Refused};
 use std::alloc::{AllocError, Global};
 use std::cmp::Ordering;
@@ -186,29 +186,6 @@ fn label_from<'a>(
 
 /// The key of a label, and what follows its equals sign.
 fn key_and_value(bytes: &[u8]) -> Result<(&str, &[u8]), Unread<'_>>
-    ensures { MatchResult result
-        (λ f. IsText f.0.now × Lacks 32 f.0.now × Lacks 61 f.0.now × (bytes.now ≡ f.0.now ++ 61 ∷ f.1.now))
-        (Fails ((key rest : List ℕ) → IsText key → Lacks 32 key → Lacks 61 key
-        → bytes.now ≡ key ++ 61 ∷ rest → ⊥)) }
-{
-    match visible_key(bytes) {
-        Some(found) => Ok(found),
-        None => any_key(bytes),
-    }
-}
-
-/// A key of visible ASCII, and what follows its equals sign: the fast path for most keys.
-fn visible_key(bytes: &[u8]) -> Option<(&str, &[u8])>
-    ensures { IfSome result (λ f. IsText f.0.now × Lacks 32 f.0.now × Lacks 61 f.0.now
-        × (bytes.now ≡ f.0.now ++ 61 ∷ f.1.now)) }
-{
-    let (key, rest) = visible_before(bytes, b'=')?;
-    let value = strip_prefix(rest, b"=")?;
-    Some((key, value))
-}
-
-/// Any key, and what follows its equals sign.
-fn any_key(bytes: &[u8]) -> Result<(&str, &[u8]), Unread<'_>>
     ensures { MatchResult result
         (λ f. IsText f.0.now × Lacks 32 f.0.now × Lacks 61 f.0.now × (bytes.now ≡ f.0.now ++ 61 ∷ f.1.now))
         (Fails ((key rest : List ℕ) → IsText key → Lacks 32 key → Lacks 61 key

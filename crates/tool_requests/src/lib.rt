@@ -2,6 +2,7 @@
 #![tactic(auto)]
 
 mod amounts;
+mod cache;
 mod dialect;
 mod flaws;
 mod labels;

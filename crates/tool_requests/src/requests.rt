@@ -60,7 +60,7 @@ impl Request {
 
 /// What a line spells, with its name as it stands there.
 #[derive(Drop)]
-pub(crate) enum Parsed<'a> {
+enum Parsed<'a> {
     Change(&'a str, Vec<Label>, Update),
     Describe(MetricKind, &'a str, Option<Unit>, &'a str),
     Scrape(Option<u64>),
@@ -68,7 +68,7 @@ pub(crate) enum Parsed<'a> {
 }
 
 /// A line without a carriage return at its end.
-fn body_of(line: &[u8]) -> &[u8]
+pub(crate) fn body_of(line: &[u8]) -> &[u8]
     ensures { result.now ≡ body line.now }
 {
     let Some((last, front)) = line.split_last() else {
@@ -185,7 +185,7 @@ fn updated_name<'a>(
 }
 
 /// The decimal places of a name.
-fn places_for(dialect: &Dialect, name: &str) -> u8
+pub(crate) fn places_for(dialect: &Dialect, name: &str) -> u8
     ensures { result ≡ places_at dialect.now.places name.now }
 {
     places_at(dialect.places.as_slice(), name.as_bytes())
@@ -312,54 +312,22 @@ fn sentence_of<'a>(
     parsed_from(alloc, dialect, word, rest)
 }
 
-/// What a line spells, or why it spells nothing.
-pub(crate) fn parsed_of<'a>(
-    alloc: Global,
-    dialect: &Dialect,
-    line: &'a [u8],
-) -> Result<Parsed<'a>, Unread<'a>>
-    ensures { MatchResult result (λ s. Spells dialect.now line.now (request_parsed s)) (Fails (IsBad dialect.now line.now)) }
-{
-    sentence_of(alloc, dialect, body_of(line))
-}
-
 /// The request of what a line spells.
-pub(crate) fn request_for(alloc: Global, parsed: Parsed<'_>) -> Result<Request, Refused>
+fn request_for(alloc: Global, parsed: Parsed<'_>) -> Result<Request, Refused>
     ensures { IfOk result (λ r. r ≡ request_parsed parsed.entry) }
 {
     match parsed {
-        Parsed::Change(name, labels, by) => change(alloc, name, labels, by),
-        Parsed::Describe(kind, name, unit, note) => description(alloc, kind, name, unit, note),
+        Parsed::Change(name, labels, by) => {
+            Ok(Request::Change(Key::from_parts(alloc, name, labels)?, by))
+        }
+        Parsed::Describe(kind, name, unit, note) => {
+            let name = KeyName::new(alloc, name)?;
+            let note = Text::new(alloc, note)?;
+            Ok(Request::Describe(kind, name, unit, note))
+        }
         Parsed::Scrape(moment) => Ok(Request::Scrape(moment)),
         Parsed::Nothing => Ok(Request::Nothing),
     }
-}
-
-/// An update of a series.
-pub(crate) fn change(
-    alloc: Global,
-    name: &str,
-    labels: Vec<Label>,
-    by: Update,
-) -> Result<Request, Refused>
-    ensures { IfOk result (λ r. r ≡ Request.Change (record { name = name.now; labels = labels.items }) by) }
-{
-    Ok(Request::Change(Key::from_parts(alloc, name, labels)?, by))
-}
-
-/// A description of a name.
-pub(crate) fn description(
-    alloc: Global,
-    kind: MetricKind,
-    name: &str,
-    unit: Option<Unit>,
-    note: &str,
-) -> Result<Request, Refused>
-    ensures { IfOk result (λ r. r ≡ Request.Describe kind name.now unit note.now) }
-{
-    let name = KeyName::new(alloc, name)?;
-    let note = Text::new(alloc, note)?;
-    Ok(Request::Describe(kind, name, unit, note))
 }
 
 /// Returns the request that a line spells, or why it spells none. An updated series has the dialect's labels beside its own, in
@@ -371,5 +339,6 @@ pub fn request_of<'a>(
 ) -> Result<Request, Unread<'a>>
     ensures { MatchResult result (Spells dialect.now line.now) (Fails (IsBad dialect.now line.now)) }
 {
-    Ok(request_for(alloc, parsed_of(alloc, dialect, line)?)?)
+    let parsed = sentence_of(alloc, dialect, body_of(line))?;
+    Ok(request_for(alloc, parsed)?)
 }

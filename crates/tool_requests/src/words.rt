@@ -1,8 +1,7 @@
 //! The words of a line.
-ghost use Rattle.std.specs.Prelude.{◌≡◌, ◌<◌, ◌≤◌, ℕ, List, ◌++◌, All, true, false, take, length, slice_index};
-ghost use Rattle.std.specs.Prelude.{MatchResult, IfSome};
+ghost use Rattle.std.specs.Prelude.{◌≡◌, ℕ, List, ◌++◌, All, true, false, MatchResult};
 ghost use Rattle.tool_grammar.specs.Cuts.{Lacks, StartsAt};
-ghost use Rattle.tool_requests.specs.Lines.{IsPlain, IsVisible, IsText, IsOfName, Fails};
+ghost use Rattle.tool_requests.specs.Lines.{IsPlain, IsText, IsOfName, Fails};
 
 use crate::flaws::{Cause, Unread};
 use tool_grammar::split_before;
@@ -62,34 +61,6 @@ pub(crate) fn text_of(word: &[u8]) -> Result<&str, Unread<'_>>
     }
 }
 
-/// How many bytes precede the first such byte or the end, if all of them are visible ASCII.
-fn visible_len(bytes: &[u8], end: u8) -> Option<usize>
-    ensures { IfSome result (λ n. (n ≤ length bytes.now) × All IsVisible (take n bytes.now) × Lacks end (take n bytes.now)
-        × (n < length bytes.now → slice_index bytes.now n ≡ end)) }
-{
-    for (place, byte) in bytes.iter().enumerate() {
-        if *byte == end {
-            return Some(place);
-        }
-        if *byte <= 32 || 127 <= *byte {
-            return None;
-        }
-    }
-    Some(bytes.len())
-}
-
-/// The text before the first such byte, and the others, if that text is visible ASCII: the fast path for most words.
-pub(crate) fn visible_before(bytes: &[u8], end: u8) -> Option<(&str, &[u8])>
-    ensures { IfSome result (λ f. IsText f.0.now × Lacks 32 f.0.now × Lacks end f.0.now
-        × (bytes.now ≡ f.0.now ++ f.1.now) × StartsAt end f.1.now) }
-{
-    let len = visible_len(bytes, end)?;
-    let word = &bytes[..len];
-    // ASCII is UTF-8, so no second pass is needed.
-    let text = unsafe { str::from_utf8_unchecked(word) };
-    Some((text, &bytes[len..]))
-}
-
 /// The text without control characters before the first such byte, and the others.
 pub(crate) fn text_before(bytes: &[u8], end: u8) -> Result<(&str, &[u8]), Unread<'_>>
     ensures { MatchResult result
@@ -97,9 +68,6 @@ pub(crate) fn text_before(bytes: &[u8], end: u8) -> Result<(&str, &[u8]), Unread
         (Fails ((text rest : List ℕ) → IsText text → Lacks end text → StartsAt end rest
         → bytes.now ≡ text ++ rest → ⊥)) }
 {
-    if let Some(found) = visible_before(bytes, end) {
-        return Ok(found);
-    }
     let (word, rest) = split_before(bytes, end);
     let text = text_of(word)?;
     Ok((text, rest))

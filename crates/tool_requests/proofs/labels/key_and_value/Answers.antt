@@ -1,6 +1,6 @@
 use Rattle.std.proofs.lemmas.Result.{err_from_is_err_and}
 use Rattle.tool_requests.proofs.ReadLemmas.{has-space, no-key, key-found}
-use Rattle.tool_requests.proofs.labels.any_key.Goals as goal
+use Rattle.tool_requests.proofs.labels.key_and_value.Goals as goal
 
 pub returns-then-place_of-key : goal.returns-then-place_of-key
 returns-then-place_of-key c = has-space c.args.bytes.now c.in-Some.key.now c.in-Some.value.now c.in-Some.ensures.0 c.in-Some.ensures.1 c.place_of.result c.if-place_of-key.true

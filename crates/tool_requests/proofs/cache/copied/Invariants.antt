@@ -1,0 +1,6 @@
+-- The labels so far.
+use Rattle.std.proofs.Common.{◌≡◌, take}
+use Rattle.tool_requests.proofs.cache.copied.Given as goal
+
+abbrev pub invariant-loop-label : goal.invariant-loop-label
+invariant-loop-label l = l.copies.items ≡ take l.label-index l.labels
