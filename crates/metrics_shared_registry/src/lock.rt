@@ -1,6 +1,6 @@
 //! A lock that many threads may share, or one may have alone.
-ghost use Rattle.std.specs.Prelude.{◌≡◌, ◌%◌, ◌<◌, IsTrue, IsSome, IfSome, IfErr, IsSomeAnd};
-ghost use Rattle.std.specs.Box.{box_value};
+ghost use Rattle.std.specs.Prelude.{◌≡◌, ◌%◌, ◌<◌, IsTrue, Some, IsSome, IfSome, IsSomeAnd};
+ghost use Rattle.std.specs.Arc.{arc_value};
 ghost use Rattle.counted_slot.specs.Counting.{readers};
 ghost use Rattle.crossbeam_utils.specs.Padded.{padded_value};
 
@@ -10,16 +10,22 @@ use std::alloc::{AllocError, Global};
 use std::hint::spin_loop;
 use std::ops::{Deref, DerefMut};
 use std::sync::atomic::{AtomicU64, Ordering};
-use std::sync::{Mutex, MutexGuard, Wait};
+use std::sync::{Arc, Mutex, MutexGuard, Wait};
 
 /// How often a writer looks whether the last reader has left, before it sleeps.
 const LOOKS: u32 = 100;
 
-/// What a lock's slot holds: the value, or nothing while a writer has it.
+/// An owner of the value. Its place is empty while a writer has the value.
+type Owner<T> = Arc<Option<T>>;
+
+/// What a door's slot holds: an owner of the value, or nothing while a writer comes or has the value.
 ///
 /// Readers change the word beside it as they come and leave, so what they read is on other cache lines, and so is the value.
 #[derive(Drop)]
-pub(crate) struct Kept<T>(CachePadded<Option<Box<T>>>);
+pub(crate) struct Kept<T>(CachePadded<Option<Owner<T>>>);
+
+/// A word that counts the readers who came by it, and what they read.
+type Door<T> = Counted<Kept<T>>;
 
 impl<T> Fits for Kept<T> {
     type Tag = ();
@@ -48,32 +54,86 @@ fn is_unread(word: u64) -> bool
     state_of(word) != TAKEN && reader_count(word) == 0
 }
 
+/// Keeps new readers out of a door.
+fn mark<T>(door: &Door<T>) {
+    let mut seen = door.load();
+    for _ in 0..u64::MAX {
+        if state_of(seen) != PRESENT {
+            return;
+        }
+        let (found, claim) = door.turn(seen, seen - PRESENT + MARKED);
+        claim.done();
+        if found == seen {
+            return;
+        }
+        seen = found;
+    }
+}
+
+/// Exchanges what a door's slot holds, and leaves this state. Returns nothing if somebody reads.
+fn exchange<T: Drop>(
+    door: &Door<T>,
+    owner: Option<Owner<T>>,
+    state: u64,
+) -> Option<Option<Owner<T>>>
+    requires { state < 3 }
+{
+    let seen = door.load();
+    if !is_unread(seen) {
+        return None;
+    }
+    let (found, claim) = door.turn(seen, TAKEN);
+    if found != seen {
+        claim.done();
+        return None;
+    }
+    Some(
+        claim
+            .put(Kept(CachePadded::new(owner)), state)
+            .0
+            .into_inner(),
+    )
+}
+
+/// Takes the value out of its place, if nobody else owns it.
+fn take<T: Drop>(owner: Option<Owner<T>>) -> Option<(Owner<T>, T)> {
+    let mut owner = owner?;
+    let value = Arc::get_mut(&mut owner)?.take()?;
+    Some((owner, value))
+}
+
 /// A value that many threads may read at once, or one may change.
 ///
-/// A reader changes the slot's word once as it comes, and once as it leaves. It comes only at `PRESENT`, and tries first as if
-/// nobody else read: a look before would fetch the word's cache line once to read it and once more to change it. A writer that
-/// finds readers marks the word, so that no more come, and waits until the last has left. Then it takes the value out, and
-/// leaves the word marked until it puts the value back.
+/// Readers come by one of two doors. Each tries the first as if nobody else read: a look before would fetch the word's cache
+/// line once to read it and once more to change it. One that meets others there goes to the second, so that fewer threads change
+/// each word. A reader comes only at `PRESENT`, and changes its door's word once more as it leaves. A writer marks both doors,
+/// so that no more readers come, waits until the last has left, and takes what the slots hold. The doors stay marked, and it is
+/// the value's only owner, until it puts the value back.
 ///
 /// No contract says what the value is, since other threads may change it at any time.
 #[derive(Drop)]
 pub(crate) struct Lock<T> {
     /// Writers have this one at a time, and a reader that meets one waits for it.
     turn: Mutex<()>,
-    /// 1 if a writer may sleep until the last reader has left.
+    /// 1 if a writer may sleep until the last reader of a door has left.
     sleeps: AtomicU64,
-    slot: Counted<Kept<T>>,
+    first: Door<T>,
+    second: Door<T>,
 }
 
 impl<T: Drop> Lock<T> {
     /// Makes a lock of a value.
     pub fn new(alloc: Global, value: T) -> Result<Lock<T>, AllocError> {
+        let Ok(owner) = Arc::new(alloc, Some(value)) else {
+            return Err(AllocError);
+        };
         let lock = Lock {
             turn: Mutex::new(()),
             sleeps: AtomicU64::new(0),
-            slot: Counted::new(Kept(CachePadded::new(None)), &()),
+            first: Counted::new(Kept(CachePadded::new(None)), &()),
+            second: Counted::new(Kept(CachePadded::new(None)), &()),
         };
-        lock.give(Box::new(alloc, value)?);
+        lock.open(owner);
         Ok(lock)
     }
 
@@ -87,6 +147,7 @@ impl<T: Drop> Lock<T> {
     }
 
     /// Waits for the writers that have their turn, until it can read.
+    #[inline(never)]
     fn come_later<R: Wait>(&self, rt: &R) -> ReadGuard<'_, T> {
         for _ in rt.forever() {
             drop(self.turn.lock(rt));
@@ -100,13 +161,24 @@ impl<T: Drop> Lock<T> {
     /// Reads the value, unless a writer has it or waits for it.
     #[inline(always)]
     fn come(&self) -> Option<ReadGuard<'_, T>> {
+        let (found, claim) = self.first.turn(PRESENT, PRESENT + ONE_READER);
+        if found == PRESENT {
+            return ReadGuard::new(self, claim);
+        }
+        claim.done();
+        self.come_beside()
+    }
+
+    /// Comes by the second door.
+    #[inline(always)]
+    fn come_beside(&self) -> Option<ReadGuard<'_, T>> {
         let mut seen = PRESENT;
         // Each further turn follows a step of another thread.
         for _ in 0..u64::MAX {
             if state_of(seen) != PRESENT || reader_count(seen) == MOST_READERS {
                 return None;
             }
-            let (found, claim) = self.slot.turn(seen, seen + ONE_READER);
+            let (found, claim) = self.second.turn(seen, seen + ONE_READER);
             if found == seen {
                 return ReadGuard::new(self, claim);
             }
@@ -120,90 +192,60 @@ impl<T: Drop> Lock<T> {
     #[inline(never)]
     pub fn write<R: Wait>(&self, rt: &R) -> WriteGuard<'_, T> {
         let turn = self.turn.lock(rt);
+        mark(&self.first);
+        mark(&self.second);
+        // The first turn returns, since nobody else owns the value then.
         for _ in rt.forever() {
-            if let Some(value) = self.take() {
+            let owner = self.shut(rt, &self.first);
+            drop(self.shut(rt, &self.second));
+            if let Some((owner, value)) = take(owner) {
                 return WriteGuard {
                     lock: self,
+                    owner,
                     value,
                     turn,
                 };
             }
-            self.mark();
-            self.wait_for_readers(rt);
         }
         unreachable!()
     }
 
-    /// Takes the value out, unless somebody has it.
-    fn take(&self) -> Option<Box<T>> {
-        match self.exchange(None, MARKED) {
-            Ok(value) => value,
-            Err(_) => None,
-        }
-    }
-
-    /// Puts a value in, and lets readers come.
-    fn give(&self, value: Box<T>) {
-        let mut left = Some(value);
-        // The first turn succeeds, since whoever gives a value has taken it.
-        for _ in 0..u64::MAX {
-            match self.exchange(left, PRESENT) {
-                Ok(_) => return,
-                Err(value) => left = value,
+    /// Waits until the last reader of a marked door has left, and takes what its slot holds.
+    fn shut<R: Wait>(&self, rt: &R, door: &Door<T>) -> Option<Owner<T>> {
+        for _ in rt.forever() {
+            if let Some(owner) = exchange(door, None, MARKED) {
+                return owner;
             }
+            self.wait_for_readers(rt, door);
         }
+        unreachable!()
     }
 
-    /// Exchanges what the slot holds, and leaves this state. Returns the value that it was given if somebody reads.
-    #[inline(always)]
-    fn exchange(&self, value: Option<Box<T>>, state: u64) -> Result<Option<Box<T>>, Option<Box<T>>>
-        requires { state < 3 }
-        ensures { IfErr result (λ v. v ≡ value) }
-    {
-        let seen = self.slot.load();
-        if !is_unread(seen) {
-            return Err(value);
-        }
-        let (found, claim) = self.slot.turn(seen, TAKEN);
-        if found != seen {
-            claim.done();
-            return Err(value);
-        }
-        Ok(
-            claim
-                .put(Kept(CachePadded::new(value)), state)
-                .0
-                .into_inner(),
-        )
+    /// Lets readers come by both doors, whose slots are empty. If it can't have a second owner, they come by the first.
+    fn open(&self, owner: Owner<T>) {
+        exchange(&self.second, Arc::try_clone(&owner).ok(), PRESENT);
+        exchange(&self.first, Some(owner), PRESENT);
     }
 
-    /// Keeps new readers out.
-    fn mark(&self) {
-        let mut seen = self.slot.load();
-        for _ in 0..u64::MAX {
-            if state_of(seen) != PRESENT {
-                return;
-            }
-            let (found, claim) = self.slot.turn(seen, seen - PRESENT + MARKED);
-            claim.done();
-            if found == seen {
-                return;
-            }
-            seen = found;
+    /// Puts the value back.
+    fn give(&self, mut owner: Owner<T>, value: T) {
+        if let Some(place) = Arc::get_mut(&mut owner) {
+            *place = Some(value);
         }
+        self.open(owner);
     }
 
-    /// Waits until the readers of a marked word have left.
-    fn wait_for_readers<R: Wait>(&self, rt: &R) {
+    /// Waits until the readers of a marked door have left.
+    fn wait_for_readers<R: Wait>(&self, rt: &R, door: &Door<T>) {
         for _ in 0..LOOKS {
-            if is_unread(self.slot.load()) {
+            if is_unread(door.load()) {
                 return;
             }
             spin_loop();
         }
         self.sleeps.store(1, Ordering::SeqCst);
         // A reader that leaves after this look finds the 1.
-        if !is_unread(self.slot.load()) {
+        if !is_unread(door.load()) {
             self.sleeps.park(rt, 1);
         }
     }
@@ -221,6 +263,7 @@ impl<T> Lock<T> {
     }
 
     /// Wakes the writer if it sleeps.
+    #[inline(never)]
     fn wake_writer(&self) {
         if self.sleeps.swap(0, Ordering::SeqCst) == 1 {
             self.sleeps.wake_one();
@@ -233,7 +276,7 @@ pub(crate) struct ReadGuard<'a, T> {
     lock: &'a Lock<T>,
     claim: Claim<'a, Kept<T>>,
     ghost reads: { claim.right ≡ 1 },
-    ghost filled: { ∥ IsSomeAnd claim.value (λ kept. IsSome (padded_value kept.0)) ∥₁ },
+    ghost filled: { ∥ IsSomeAnd claim.value (λ kept. IsSomeAnd (padded_value kept.0) (λ o. IsSome (arc_value o))) ∥₁ },
 }
 
 impl<'a, T> ReadGuard<'a, T> {
@@ -242,7 +285,7 @@ impl<'a, T> ReadGuard<'a, T> {
     fn new(lock: &'a Lock<T>, claim: Claim<'a, Kept<T>>) -> Option<ReadGuard<'a, T>>
         requires { claim.right ≡ 1 }
     {
-        if claim.get().0.is_some() {
+        if claim.get().0.as_ref().is_some_and(|owner| owner.is_some()) {
             Some(ReadGuard { lock, claim })
         } else {
             lock.leave(claim);
@@ -254,11 +297,14 @@ impl<'a, T> ReadGuard<'a, T> {
 impl<T> Deref for ReadGuard<'_, T> {
     type Target = T;
 
-    ghost deref_gives = { λ g x. IfSome g.claim.value (λ kept. IfSome (padded_value kept.0) (λ b. x ≡ box_value b)) };
+    ghost deref_gives = { λ g x. IfSome g.claim.value (λ kept. IfSome (padded_value kept.0) (λ o. arc_value o ≡ Some x)) };
 
     #[inline(always)]
     fn deref(&self) -> &T {
-        match &*self.claim.get().0 {
+        let Some(owner) = &*self.claim.get().0 else {
+            unreachable!()
+        };
+        match &**owner {
             Some(value) => value,
             None => unreachable!(),
         }
@@ -276,14 +322,15 @@ impl<T> Drop for ReadGuard<'_, T> {
 /// A writer, which has a lock's value out. Dropped, it puts the value back.
 pub(crate) struct WriteGuard<'a, T: Drop> {
     lock: &'a Lock<T>,
-    value: Box<T>,
+    owner: Owner<T>,
+    value: T,
     turn: MutexGuard<'a, ()>,
 }
 
 impl<T: Drop> Deref for WriteGuard<'_, T> {
     type Target = T;
 
-    ghost deref_gives = { λ g x. x ≡ box_value g.value };
+    ghost deref_gives = { λ g x. x ≡ g.value };
 
     fn deref(&self) -> &T {
         &self.value
@@ -291,7 +338,7 @@ impl<T: Drop> Deref for WriteGuard<'_, T> {
 }
 
 impl<T: Drop> DerefMut for WriteGuard<'_, T> {
-    ghost deref_mut_gives = { λ g x. x ≡ box_value g.value };
+    ghost deref_mut_gives = { λ g x. x ≡ g.value };
 
     fn deref_mut(&mut self) -> &mut T {
         &mut self.value
@@ -300,8 +347,13 @@ impl<T: Drop> DerefMut for WriteGuard<'_, T> {
 
 impl<T: Drop> Drop for WriteGuard<'_, T> {
     fn drop(self) {
-        let Self { lock, value, turn } = self;
-        lock.give(value);
+        let Self {
+            lock,
+            owner,
+            value,
+            turn,
+        } = self;
+        lock.give(owner, value);
         drop(turn);
     }
 }

@@ -99,12 +99,28 @@ where
             × FnOnceReturnsAt F.FnOnce op c v) }
         ensures err { IfErr result (λ e. e ≡ OutOfMemory) }
     {
-        let shard = self.shard(key);
-        if let Some(cell) = shard.read(rt).counters.get(key) {
+        if let Some(cell) = self.shard(key).read(rt).counters.get(key) {
             return Ok(op(cell));
         }
+        self.create_counter(rt, key, op)
+    }
+
+    /// Does so for a key that wasn't held. It isn't inlined, so that a look-up needs no room for what a writer takes.
+    #[inline(never)]
+    fn create_counter<W: Wait, V, F: FnOnce(&S::Counter) -> V + Drop>(
+        &self,
+        rt: &W,
+        key: &K,
+        op: F,
+    ) -> Result<V, Error>
+        requires { F.IsAlwaysCallable op }
+        ensures called { IfOk result (λ v. (c : S.Counter) × FitsKey K.eq S.makes_counter key.now c
+            × FnOnceReturnsAt F.FnOnce op c v) }
+        ensures err { IfErr result (λ e. e ≡ OutOfMemory) }
+    {
         let cell = self.storage.counter(key)?;
-        shard.write(rt).counters.get_or_insert(key, cell, op)
+        let mut shard = self.shard(key).write(rt);
+        shard.counters.get_or_insert(key, cell, op)
     }
 
     /// Calls `f` once for each counter, in some order.
@@ -202,12 +218,28 @@ where
             × FnOnceReturnsAt F.FnOnce op c v) }
         ensures err { IfErr result (λ e. e ≡ OutOfMemory) }
     {
-        let shard = self.shard(key);
-        if let Some(cell) = shard.read(rt).gauges.get(key) {
+        if let Some(cell) = self.shard(key).read(rt).gauges.get(key) {
             return Ok(op(cell));
         }
+        self.create_gauge(rt, key, op)
+    }
+
+    /// Does so for a key that wasn't held. It isn't inlined, so that a look-up needs no room for what a writer takes.
+    #[inline(never)]
+    fn create_gauge<W: Wait, V, F: FnOnce(&S::Gauge) -> V + Drop>(
+        &self,
+        rt: &W,
+        key: &K,
+        op: F,
+    ) -> Result<V, Error>
+        requires { F.IsAlwaysCallable op }
+        ensures called { IfOk result (λ v. (c : S.Gauge) × FitsKey K.eq S.makes_gauge key.now c
+            × FnOnceReturnsAt F.FnOnce op c v) }
+        ensures err { IfErr result (λ e. e ≡ OutOfMemory) }
+    {
         let cell = self.storage.gauge(key)?;
-        shard.write(rt).gauges.get_or_insert(key, cell, op)
+        let mut shard = self.shard(key).write(rt);
+        shard.gauges.get_or_insert(key, cell, op)
     }
 
     /// Calls `f` once for each gauge, in some order.
@@ -306,12 +338,28 @@ where
             × FnOnceReturnsAt F.FnOnce op c v) }
         ensures err { IfErr result (λ e. e ≡ OutOfMemory) }
     {
-        let shard = self.shard(key);
-        if let Some(cell) = shard.read(rt).histograms.get(key) {
+        if let Some(cell) = self.shard(key).read(rt).histograms.get(key) {
             return Ok(op(cell));
         }
+        self.create_histogram(rt, key, op)
+    }
+
+    /// Does so for a key that wasn't held. It isn't inlined, so that a look-up needs no room for what a writer takes.
+    #[inline(never)]
+    fn create_histogram<W: Wait, V, F: FnOnce(&S::Histogram) -> V + Drop>(
+        &self,
+        rt: &W,
+        key: &K,
+        op: F,
+    ) -> Result<V, Error>
+        requires { F.IsAlwaysCallable op }
+        ensures called { IfOk result (λ v. (c : S.Histogram) × FitsKey K.eq S.makes_histogram key.now c
+            × FnOnceReturnsAt F.FnOnce op c v) }
+        ensures err { IfErr result (λ e. e ≡ OutOfMemory) }
+    {
         let cell = self.storage.histogram(key)?;
-        shard.write(rt).histograms.get_or_insert(key, cell, op)
+        let mut shard = self.shard(key).write(rt);
+        shard.histograms.get_or_insert(key, cell, op)
     }
 
     /// Calls `f` once for each histogram, in some order.
