@@ -18,7 +18,7 @@ import sys
 DOCS = os.path.join(os.path.dirname(os.path.dirname(os.path.abspath(__file__))), "docs")
 TABLE = os.path.join(DOCS, "BENCHMARKS.md")
 CHART = os.path.join(DOCS, "benchmarks.svg")
-ROW = re.compile(r"^\| `(\w+)`(?:, beside `(\w+)`)? \| (.*?) \| ([^|]*) \| ([^|]*) \| ([\d.]+) \|$")
+ROW = re.compile(r"^\| `(\w+)`(?:, beside `(\w+)`)? \| (.*?[a-z].*?) \| ([^|]*) \| ([^|]*) \| ([\d.]+) \|$")
 ALONE = re.compile(r"^\| `(\w+)` \| [^|]* \|$")
 PEERS = ("The Rust crate, ns", "`prometheus`, ns")
 
