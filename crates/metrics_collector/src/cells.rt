@@ -333,8 +333,12 @@ pub(crate) trait Watched: Drop {
     /// Returns what all handles of the series share.
     fn shared(&self) -> &Arc<Self::Cell>;
 
+    /// Returns what it holds at the moment.
+    fn held<W: Wait>(&self, rt: &W) -> Result<Value, Error>
+        ensures { IfOk result (λ value. kind_of value ≡ kind_held) };
+
     /// Returns what it holds at the moment, with its generation then.
-    fn held<W: Wait>(&self, rt: &W) -> Result<Seen, Error>
+    fn seen<W: Wait>(&self, rt: &W) -> Result<Seen, Error>
         ensures kind { IfOk result (λ seen. kind_of seen.value ≡ kind_held) }
         ensures generation { IfOk result (λ seen. IsGenerationOf seen.value seen.generation) };
 }
@@ -352,11 +356,15 @@ impl Watched for GaugeHandle {
         &self.cell
     }
 
+    fn held<W: Wait>(&self, _rt: &W) -> Result<Value, Error> {
+        Ok(Value::Level(self.value()))
+    }
+
     /// An update changes the value and then notes it. They are read in the other order: an update between the two reads is
     /// shown at once, and again by the next reading.
-    fn held<W: Wait>(&self, _rt: &W) -> Result<Seen, Error> {
-        let generation = Generation::new(self.cell.changes());
-        let value = Value::Level(self.value());
+    fn seen<W: Wait>(&self, rt: &W) -> Result<Seen, Error> {
+        let generation = self.cell.generation(rt);
+        let value = self.held(rt)?;
         Ok(Seen { generation, value })
     }
 }
@@ -374,7 +382,11 @@ impl Watched for HistogramHandle {
         &self.cell
     }
 
-    fn held<W: Wait>(&self, rt: &W) -> Result<Seen, Error> {
+    fn held<W: Wait>(&self, rt: &W) -> Result<Value, Error> {
+        Ok(self.seen(rt)?.value)
+    }
+
+    fn seen<W: Wait>(&self, rt: &W) -> Result<Seen, Error> {
         let samples = self.read(rt)?;
         let generation = Generation::new(samples.count());
         let value = Value::Samples(Box::new(self.cell.allocator(), samples)?);

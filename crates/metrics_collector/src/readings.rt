@@ -1,5 +1,5 @@
 //! The series of a collector, and their readings: which series are shown, and which leave.
-ghost use Rattle.std.specs.Prelude.{◌≡◌, ◌⊎◌, ℕ, true, false, None, IfOk, IfErr, if◌then◌else◌};
+ghost use Rattle.std.specs.Prelude.{◌≡◌, ◌⊎◌, ◌++◌, ◌∷◌, [], ℕ, true, false, None, OnOk, IfOk, IfErr, if◌then◌else◌};
 ghost use Rattle.std.specs.Arc.{arc_value};
 ghost use Rattle.std.specs.Fn.{FnOnceReturnsAt};
 ghost use Rattle.metrics.specs.declared.error.Error.TheVariants.{Memory as OutOfMemory, BadShards as NotShards};
@@ -8,7 +8,7 @@ ghost use Rattle.metrics_names.specs.declared.kind.MetricKind.{MetricKind as Any
 ghost use Rattle.metrics_registry.specs.Held.{is_shard_count as is_count};
 ghost use Rattle.metrics_registry.specs.Recency.{table_answer};
 ghost use Rattle.metrics_registry.specs.RecencyEntries.{rules_of, table_of, check_of};
-ghost use Rattle.metrics_collector.specs.Gathering.{IsUnread};
+ghost use Rattle.metrics_collector.specs.Gathering.{AddsRow, IsUnread};
 
 mod counters;
 mod removal;
@@ -17,7 +17,7 @@ use crate::cells::{
     CollectorCells, CounterHandle, GaugeHandle, HistogramHandle, Seen, SharedCell, Watched,
 };
 use crate::epoch::Epoch;
-use crate::gathered::{Gathered, GatheredSeries};
+use crate::gathered::{Gathered, GatheredSeries, Value};
 use crate::rows::Rows;
 use metrics::{Error, Key, MetricKind, MetricKindMask};
 use metrics_counts::CountNotes;
@@ -237,6 +237,8 @@ impl Reading {
 #[derive(Drop)]
 struct Readings {
     alloc: Global,
+    /// The kinds of which idle series leave.
+    watched: MetricKindMask,
     /// Of counters.
     counts: CountNotes<Key>,
     /// Of gauges and histograms.
@@ -246,31 +248,37 @@ struct Readings {
 impl Readings {
     /// Begins without notes. A series of a kind in the mask is idle if it kept its generation for longer than the timeout.
     fn new(alloc: Global, mask: MetricKindMask, idle_timeout: Option<u64>) -> Readings {
-        let is_watched = mask.matches(MetricKind::Counter);
+        let watched = match idle_timeout {
+            Some(_) => mask,
+            None => MetricKindMask::NONE,
+        };
+        let is_watched = watched.matches(MetricKind::Counter);
         let timeout = if is_watched { idle_timeout } else { None };
         Readings {
             alloc,
+            watched,
             counts: CountNotes::new(alloc, timeout),
             recency: OwnedRecency::new(alloc, mask, idle_timeout),
         }
     }
 
-    /// Adds a series with what it holds. If that has changed since the look, it notes the generation anew.
-    fn push<W: Wait, C: Watched>(
+    /// Adds a series with what it holds. If that fails, the next reading finds it new.
+    fn show<C: Watched>(
         &mut self,
-        rt: &W,
         reading: &mut Reading,
         key: &Key,
-        cell: &C,
-        looked: Generation,
-    ) -> Result<(), Error> {
-        let Seen { generation, value } = cell.held(rt)?;
-        if generation != looked {
-            self.recency.note(C::kind(), key, generation, reading.now)?;
+        value: Value,
+    ) -> Result<(), Error>
+        ensures { OnOk result (reading.new.rows ≡ reading.old.rows ++ record { key = key.now; value = value } ∷ []) }
+    {
+        let pushed = reading.rows.push(key, value);
+        if pushed.is_err() {
+            self.recency.forget(C::kind(), key);
         }
-        Ok(reading.rows.push(key, value)?)
+        Ok(pushed?)
     }
 
+    /// Reads a cell once. A series is looked at with the generation that it then had, unless no timeout asks for one.
     fn look_at<W: Wait, C: Watched>(
         &mut self,
         rt: &W,
@@ -278,28 +286,26 @@ impl Readings {
         found: &mut Vec<Idle<C>>,
         key: &Key,
         cell: &C,
-    ) -> Result<(), Error> {
-        let shared = cell.shared();
-        let has_clones = Arc::strong_count(shared) > 1;
-        let seen = shared.generation(rt);
+    ) -> Result<(), Error>
+        ensures shown { OnOk result (AddsRow C.kind_held key.now reading.old.rows reading.new.rows
+            ⊎ ((reading.new.rows ≡ reading.old.rows) × (generation : ℕ) × (table_answer (rules_of self.old.recency)
+            (check_of C.kind_held key.now generation reading.old.now true) (table_of key_eq self.old.recency) ≡ false))) }
+    {
+        if !self.watched.matches(C::kind()) {
+            return Ok(reading.rows.push(key, cell.held(rt)?)?);
+        }
+        let has_clones = Arc::strong_count(cell.shared()) > 1;
+        let Seen { generation, value } = cell.seen(rt)?;
         let recency = &mut self.recency;
-        let fate = look(recency, C::kind(), key, seen, has_clones, reading.now)?;
-        if fate == Fate::Gone {
-            let key = key.clone()?;
-            found.push(Idle {
-                key,
+        match look(recency, C::kind(), key, generation, has_clones, reading.now)? {
+            Fate::Shown => return self.show::<C>(reading, key, value),
+            Fate::Hidden => reading.has_held_idle = true,
+            Fate::Gone => found.push(Idle {
+                key: key.clone()?,
                 of: PhantomData,
-            })?;
+            })?,
         }
-        if fate != Fate::Shown {
-            reading.has_held_idle |= fate == Fate::Hidden;
-            return Ok(());
-        }
-        let pushed = self.push(rt, reading, key, cell, seen);
-        if pushed.is_err() {
-            self.recency.forget(C::kind(), key);
-        }
-        pushed
+        Ok(())
     }
 
     /// Adds a series to the reading if it is shown, and to what was found idle if it seems to leave.
