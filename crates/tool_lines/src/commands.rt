@@ -2,12 +2,13 @@
 ghost use Rattle.std.specs.Prelude.{◌≡◌, ◌≤◌, ◌++◌, ◌⊎◌, ℕ, List, Some, IfSome, OnSome, IfErr, map};
 ghost use Rattle.std.specs.Io.KnownBytes.{Consumes, Appends, IsAtEnd};
 ghost use Rattle.tool_export.specs.declared.plans.ExportPlan.{ExportPlan as Plan};
-ghost use Rattle.tool_lines.specs.Exports.{AsksExport, end_status, EndsExport};
+ghost use Rattle.tool_lines.specs.Exports.{AsksExport, EndsExport};
 ghost use Rattle.tool_lines.specs.Running.{PrintsAnswers};
 ghost use Rattle.tool_grammar.specs.declared.error.RunError.TheVariants.{Device as NoDevice};
 ghost use Rattle.tool_lines.specs.declared.requests.Request.{Request as Asked};
 ghost use Rattle.tool_lines.specs.declared.requests.StormPlan.{StormPlan as Storm};
 ghost use Rattle.tool_lines.specs.declared.requests.Request.TheVariants as ask;
+ghost use Rattle.tool_stream.specs.Answering.{status_number};
 ghost use Rattle.tool_stream.specs.Lines.{lines_of};
 ghost use Rattle.tool_lines.specs.Output.{AnswersAll, AnswersFirst, AnswersPart, RunsKnown};
 ghost use Rattle.tool_lines.specs.Requests.{IsAllowed, Asks, AsksStorm, Prints, Begins};
@@ -114,57 +115,12 @@ fn refuse_words<E: Write>(errors: &mut E) -> u8
     2
 }
 
-/// Does what words other than those of an export ask for, and returns the status.
-fn answer_words<R: Threads + Wait + Sync, I: BufRead, O: Write, E: Write>(
-    rt: &R,
-    alloc: Global,
-    words: &[&str],
-    input: &mut I,
-    output: &mut O,
-    errors: &mut E,
-) -> u8
-    ensures done { result ≡ 0 → (asked : Asked) × (text : List ℕ) × Asks (map (λ w. w.now) words.now) asked
-        × Appends (O.contents output.old) (O.contents output.new) text × Prints asked text }
-    ensures whole { result ≡ 0 → Asks (map (λ w. w.now) words.now) ask.Run
-        → IfSome (I.remaining input.old) (λ bytes. IfSome (O.contents output.old) (λ held.
-        AnswersAll (lines_of bytes) (λ text. O.contents output.new ≡ Some (held ++ text)))) }
-    ensures first { result ≡ 2 → Asks (map (λ w. w.now) words.now) ask.Run
-        → IfSome (I.remaining input.old) (λ bytes. IfSome (O.contents output.old) (λ held.
-        AnswersFirst (lines_of bytes) (λ text. O.contents output.new ≡ Some (held ++ text)))) }
-    ensures part { result ≡ 1 → Asks (map (λ w. w.now) words.now) ask.Run
-        → IfSome (I.remaining input.old) (λ bytes. IfSome (O.contents output.old) (λ held.
-        AnswersPart (lines_of bytes) (λ text. O.contents output.new ≡ Some (held ++ text)))) }
-    ensures begun { (asked : Asked) → Asks (map (λ w. w.now) words.now) asked
-        → (text more : List ℕ) × Appends (O.contents output.old) (O.contents output.new) text
-        × Prints asked (text ++ more) }
-    ensures wrong { ((asked : Asked) → Asks (map (λ w. w.now) words.now) asked → ⊥) → (result ≡ 2)
-        × (output.new ≡ output.old) }
-    ensures status { result ≤ 2 }
-    ensures storm { (plan : Storm) → AsksStorm (map (λ w. w.now) words.now) plan → result ≤ 1 }
+/// Writes why the program stopped to `errors`, whose faults are ignored, and returns the status for it.
+fn report<E: Write>(errors: &mut E, why: RunError) -> u8
+    ensures { result ≡ status_number why }
 {
-    let Some(request) = request_of(words) else {
-        return refuse_words(errors);
-    };
-    match answer_request(rt, alloc, request, input, output) {
-        Ok(()) => 0,
-        Err(e) => {
-            let _ = writeln!(errors, "{e}");
-            status_of(e)
-        }
-    }
-}
-
-/// Returns the status at the end of a run. Writes why it stopped to `errors`, whose faults are ignored.
-fn report<E: Write>(errors: &mut E, answered: Result<u64, RunError>) -> u8
-    ensures { result ≡ end_status answered }
-{
-    match answered {
-        Ok(_) => 0,
-        Err(e) => {
-            let _ = writeln!(errors, "{e}");
-            status_of(e)
-        }
-    }
+    let _ = writeln!(errors, "{why}");
+    status_of(why)
 }
 
 /// Answers the lines of an exporter, and returns the status at its end.
@@ -179,8 +135,10 @@ fn answer_export<I: BufRead, O: Write, E: Write>(
         (Consumes (I.remaining input.old) (I.remaining input.new))
         (Appends (O.contents output.old) (O.contents output.new)) result }
 {
-    let answered = export_new(alloc, plan, input, output);
-    report(errors, answered)
+    match export_new(alloc, plan, input, output) {
+        Ok(_) => 0,
+        Err(e) => report(errors, e),
+    }
 }
 
 /// Does what words that begin as those of an export ask for, and returns the status.
@@ -204,7 +162,7 @@ fn answer_export_words<I: BufRead, O: Write, E: Write>(
     match export_of(alloc, words) {
         Ok(Some(plan)) => answer_export(alloc, &plan, input, output, errors),
         Ok(None) => refuse_words(errors),
-        Err(_) => report(errors, Err(RunError::Memory(None))),
+        Err(_) => report(errors, RunError::Memory(None)),
     }
 }
 
@@ -258,5 +216,11 @@ pub fn command<R: Threads + Wait + Sync, I: BufRead, O: Write, E: Write>(
     if is_export(words) {
         return answer_export_words(alloc, words, input, output, errors);
     }
-    answer_words(rt, alloc, words, input, output, errors)
+    let Some(request) = request_of(words) else {
+        return refuse_words(errors);
+    };
+    match answer_request(rt, alloc, request, input, output) {
+        Ok(()) => 0,
+        Err(e) => report(errors, e),
+    }
 }
