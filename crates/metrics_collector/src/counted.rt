@@ -21,7 +21,7 @@ pub const LEFT_OUT_NAME: &str = "metrics_left_out_series";
 fn gauge_number(counted: &CountedText) -> i64
     ensures { IsLeftOutNumber (string_bytes counted.now.text) result }
 {
-    i64::try_from(counted.left_out).unwrap_or(i64::MAX)
+    i64::try_from(counted.left_out.len()).unwrap_or(i64::MAX)
 }
 
 /// Returns the row of the gauge.

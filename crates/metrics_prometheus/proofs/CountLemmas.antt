@@ -1,21 +1,21 @@
 -- The number of the series that a text leaves out.
-use Rattle.std.proofs.Common.{◌≡◌, ◌≢◌, ◌∙◌, ◌≤◌, ◌+◌, ℕ, suc, Bool, true, false, cond, List, [], ◌∷◌, ◌++◌, codes, drop, take, map, length, get_or, Option, Some, None, is_some, refl, ap, sym, arith, append-nil, append_assoc, take-append-drop, nat_eq}
+use Rattle.std.proofs.Common.{◌≡◌, ◌≢◌, ◌∙◌, ◌+◌, ℕ, zero, suc, Bool, true, false, not, cond, List, [], ◌∷◌, ◌++◌, codes, drop, take, map, length, get_or, Option, Some, None, is_some, refl, ap, sym, arith, append-nil, append_assoc, take-append-drop, nat_eq}
 use Rattle.std.specs.Prelude.{flat_map, bytes_eq}
 use Rattle.std.specs.Borrow.{Bor}
-use Rattle.std.specs.List.{AllByRecursion, filter, slice_split, onto_first, starts_with}
-use Rattle.std.proofs.lemmas.List.Elements.{All-from_recursion, filter-append}
+use Rattle.std.specs.List.{AllByRecursion, filter, slice_split, starts_with}
+use Rattle.std.proofs.lemmas.List.Elements.{All-append, All-from_recursion, filter-append}
 use Rattle.std.proofs.lemmas.List.Splits.{slice_split_at}
 use Rattle.std.proofs.lemmas.Slice.Eq.{bytes_eq-Decides}
 use Rattle.std.proofs.lemmas.Bool.{eqb-true}
-use Rattle.std.proofs.Math.Seq.{take-append_seam}
-use Rattle.metrics_exporter.specs.Exporting.{Cells}
+use Rattle.std.proofs.Math.Seq.{take-append_seam, drop-append_seam}
+use Rattle.metrics_exporter.specs.Exporting.{Reading, Cells}
 use Rattle.metrics_descriptions.specs.Legends.{Legend}
 use Rattle.metrics_exposition.specs.declared.naming.Naming.{Naming}
 use Rattle.metrics_exposition.specs.Samples.{Sample}
 use Rattle.metrics_exposition.proofs.NameLemmas.{AreKeyed}
-use Rattle.metrics_prometheus.specs.Exposition.{Row, Reason, reason_of, left_out_line, IsScaled}
+use Rattle.metrics_prometheus.specs.Exposition.{Row, Reason, reason_of, is_left_out, row_lines, row_lines_as, left_out_words, left_out_line, IsScaled}
 use Rattle.metrics_prometheus.specs.Written.{written, AreLeftOut, Line, has, tells_kind, leaves_out, line_text, left_out_in, IsReadable}
-use Rattle.metrics_prometheus.specs.LeftOut.{says_left_out, left_out_number, LeavesOut}
+use Rattle.metrics_prometheus.specs.LeftOut.{says_left_out, left_out_number, LeavesOut, BeginLeftOut}
 use Rattle.metrics_prometheus.proofs.LeftOutLemmas.{keyed-line}
 use Rattle.metrics_prometheus.proofs.TextLineLemmas.{lines_of, row_at, name_at, begin_at, help_at, samples_at, text-lines, left-line}
 
@@ -83,29 +83,6 @@ number-of text n so =
     let none : left_out_number [] ≡ 0 = refl in
     omega (arith, e, none, ap left_out_number (append-nil text))
 
--- a text has no more such lines than bytes
-abbrev Says : List (List ℕ) → ℕ
-Says parts = length (filter says_left_out parts)
-
-pub number-fits : (text : List ℕ) → left_out_number text ≤ length text
-number-fits [] = omega arith
-number-fits (c ∷ cs) = by (nat_eq c 10) (slice_split (λ c. nat_eq c 10) cs) (number-fits cs)
-  where
-    grown : (a b : Bool) (part more : List ℕ) (parts : List (List ℕ)) → length (cond a (part ∷ filter says_left_out parts) (filter says_left_out parts)) ≤ length cs
-        → length (cond b (more ∷ filter says_left_out parts) (filter says_left_out parts)) ≤ suc (length cs)
-    grown true true part more parts le = omega (arith, le)
-    grown true false part more parts le = omega (arith, le)
-    grown false true part more parts le = omega (arith, le)
-    grown false false part more parts le = omega (arith, le)
-
-    first : (parts : List (List ℕ)) → Says parts ≤ length cs → Says (onto_first c parts) ≤ suc (length cs)
-    first [] le = grown false (says_left_out (c ∷ [])) [] (c ∷ []) [] le
-    first (part ∷ parts) le = grown (says_left_out part) (says_left_out (c ∷ part)) part (c ∷ part) parts le
-
-    by : (b : Bool) (parts : List (List ℕ)) → Says parts ≤ length cs → Says (cond b ([] ∷ parts) (onto_first c parts)) ≤ suc (length cs)
-    by true parts le = omega (arith, le)
-    by false parts le = first parts le
-
 -- with such a line after it a text has one more
 pub line-more : (r : Row) (why : Reason) → AreKeyed r.labels → (text : List ℕ) (n : ℕ) → LeavesOut text n → LeavesOut (text ++ left_out_line r why) (n + 1)
 line-more r why keyed text n so more =
@@ -114,6 +91,35 @@ line-more r why keyed text n so more =
     ∙ numbers-in (leaves_out r why ∷ []) (record { ends = left-line r why keyed; comment = refl }, tt) more in
     let e = ap left_out_number (append_assoc text (left_out_line r why) more) ∙ so (left_out_line r why ++ more) in
     omega (arith, e, one)
+
+-- ---- the places of such lines
+
+still-says : (p : ℕ) (text more : List ℕ) → says_left_out (drop p text) ≡ true → says_left_out (drop p (text ++ more)) ≡ true
+still-says zero text more e =
+    let mark = codes "# left out: " in
+    ap (λ t. says_left_out (t ++ more)) (starts_at text mark e) ∙ ap says_left_out (append_assoc mark (drop (length mark) text) more) ∙ starts_so mark (drop (length mark) text ++ more)
+still-says (suc p) [] more e = absurd (let g : false ≡ true = e in cc)
+still-says (suc p) (c ∷ cs) more e = still-says p cs more e
+
+-- more after them leaves them in place
+pub places-stay : (text more places : List ℕ) → BeginLeftOut text places → BeginLeftOut (text ++ more) places
+places-stay text more places begin k d small = still-says (get_or places k d) text more (begin k d small)
+
+-- such a line after a text begins at its end
+pub places-more : (text line places : List ℕ) → says_left_out line ≡ true → BeginLeftOut text places → BeginLeftOut (text ++ line) (places ++ length text ∷ [])
+places-more text line places says begin =
+    All-append (λ p. says_left_out (drop p (text ++ line)) ≡ true) places (length text ∷ []) (places-stay text line places begin)
+    (All-from_recursion (λ p. says_left_out (drop p (text ++ line)) ≡ true) (length text ∷ []) (ap says_left_out (drop-append_seam text line) ∙ says, tt))
+
+pub line-says : (r : Row) (why : Reason) → says_left_out (left_out_line r why) ≡ true
+line-says r why = starts_so (codes "# left out: ") (left_out_words r why ++ 10 ∷ [])
+
+pub row-says : (reading : Option Reading) (all : List Row) (last : Option Row) (r : Row) → not (is_left_out all last r) ≡ false → says_left_out (row_lines reading all last r) ≡ true
+row-says reading all last r = by (reason_of all last r)
+  where
+    by : (o : Option Reason) → not (is_some o) ≡ false → says_left_out (row_lines_as o reading last r) ≡ true
+    by None e = absurd (let g : true ≡ false = e in cc)
+    by (Some why) e = line-says r why
 
 -- ---- the rows of a text
 

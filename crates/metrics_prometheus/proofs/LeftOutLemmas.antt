@@ -1,6 +1,6 @@
 -- The lines of a text that say what it leaves out.
 use Rattle.std.proofs.Common.{◌≡◌, ◌≢◌, ◌∙◌, ◌+◌, ◌<◌, ℕ, true, false, List, [], ◌∷◌, ◌++◌, codes, drop, length, get_or, Option, Some, None, MatchOption, refl, ap, sym, append_assoc, append-nil, arith}
-use Rattle.std.specs.Prelude.{flat_map, option_map}
+use Rattle.std.specs.Prelude.{IfSome, flat_map, option_map}
 use Rattle.std.specs.Borrow.{Bor}
 use Rattle.std.specs.Str.Pattern.{FindsTextPrefix, FindsChar, SplitsAroundMatch}
 use Rattle.std.proofs.lemmas.Str.Pattern.{split_parts}
@@ -8,6 +8,7 @@ use Rattle.std.specs.List.{AllByRecursion, filter_map, cons_option}
 use Rattle.std.specs.Option.{option_to_list}
 use Rattle.std.proofs.lemmas.List.{append_cancel_left, append_cancel_right, map-append, length-append, get_or_default}
 use Rattle.metrics_prometheus.specs.Exposition.{left_out_words}
+use Rattle.metrics_prometheus.specs.LeftOut.{SaysAt}
 use Rattle.metrics_prometheus.specs.Rows.{names_shown}
 use Rattle.metrics_prometheus.specs.Written.{Line, has, describes, tells_kind, leaves_out, line_text, left_out_in, IsLine, IsReadable, begins_comment}
 use Rattle.metrics_exposition.proofs.PairLemmas.{each-places}
@@ -115,3 +116,9 @@ cut-here rest line behind h =
 
 pub cut-nowhere : (rest : List ℕ) → FindsChar 10 rest None → (i : ℕ) → i < length rest → get_or rest i 0 ≢ 10
 cut-nowhere rest h = split_parts 10 rest None h (omega arith)
+
+-- what the line at a place says
+pub said-at : (text rest line behind : List ℕ) (place : ℕ) (o : Option (Bor (List ℕ))) → drop place text ≡ rest → rest ≡ line ++ 10 ∷ behind
+    → MatchOption o ((words : List ℕ) → line ≢ start ++ words) (λ x. line ≡ start ++ x.now) → IfSome o (λ words. SaysAt text place words.now)
+said-at text rest line behind place None there is absent = tt
+said-at text rest line behind place (Some x) there is says = (behind, there ∙ is ∙ ap (λ l. l ++ 10 ∷ behind) says ∙ append_assoc start x.now (10 ∷ behind))

@@ -13,7 +13,7 @@ mod text;
 
 pub use counted::CountedText;
 pub use laws::{exposition_law, exposition_text_law};
-pub use listing::left_out;
+pub use listing::{left_out, left_out_at};
 pub use metrics::Error;
 pub use metrics_exporter::{
     Described, Descriptions, Exporter, ReadingRef, SeriesReading, SeriesRef,

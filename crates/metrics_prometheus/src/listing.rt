@@ -1,8 +1,9 @@
 //! What a text says of the series that it leaves out.
-ghost use Rattle.std.specs.Prelude.{◌≡◌, ◌++◌, ◌∷◌, [], List, OnOk, IfOk, IfErr, flat_map, option_map};
+ghost use Rattle.std.specs.Prelude.{◌≡◌, ◌++◌, ◌∷◌, [], List, OnOk, IfOk, IfErr, IfSome, flat_map, option_map};
 ghost use Rattle.std.specs.List.{AllByRecursion, filter_map};
 ghost use Rattle.std.specs.Option.{option_to_list};
 ghost use Rattle.metrics.specs.declared.error.Error.TheVariants.{Memory as OutOfMemory};
+ghost use Rattle.metrics_prometheus.specs.LeftOut.{SaysAt};
 ghost use Rattle.metrics_prometheus.specs.Rows.{names_shown};
 ghost use Rattle.metrics_prometheus.specs.Written.{Line, line_text, left_out_in, IsReadable};
 
@@ -45,4 +46,13 @@ pub fn left_out(alloc: Global, text: &str) -> Result<Vec<&str>, Error>
         rest = later;
     }
     Ok(found)
+}
+
+/// Returns what the line at a place of a `CountedText` says of a series that is left out, as `left_out` returns it. `None` if no
+/// such line begins there.
+pub fn left_out_at(text: &str, place: usize) -> Option<&str>
+    ensures { IfSome result (λ words. SaysAt text.now place words.now) }
+{
+    let (line, _) = text.get(place..)?.split_once('\n')?;
+    line.strip_prefix("# left out: ")
 }

@@ -37,10 +37,11 @@ pub fn write_repeated(
         key,
         reading: ReadingRef::Count(0),
     };
-    let CountedText { mut text, left_out } = counted;
+    let CountedText {
+        mut text,
+        mut left_out,
+    } = counted;
+    left_out.push(text.len())?;
     write_left_out(&mut text, &row, Reason::LabelsTaken(key.name()))?;
-    Ok(CountedText {
-        text,
-        left_out: left_out + 1,
-    })
+    Ok(CountedText { text, left_out })
 }

@@ -17,6 +17,7 @@ ghost use Rattle.metrics_prometheus.specs.Exposition.{help_line, type_line, name
 ghost use Rattle.metrics_prometheus.specs.Exposition.{samples_of, row_lines, rows_text};
 ghost use Rattle.metrics_prometheus.specs.Exposition.{IsExposition, IsDescribed, IsScaled};
 ghost use Rattle.metrics_prometheus.specs.Heads.{HaveOneHead};
+ghost use Rattle.metrics_prometheus.specs.LeftOut.{BeginLeftOut};
 ghost use Rattle.metrics_prometheus.specs.Places.{rows_placed, AreAlike, line_head};
 ghost use Rattle.metrics_prometheus.specs.Written.{AreLeftOut};
 ghost use Rattle.metrics_exposition.specs.Reading.{AreOfKinds};
@@ -227,32 +228,34 @@ fn begun_line(
     }
 }
 
-/// The text of rows, which may be alike, and how many of them it leaves out.
+/// The text of rows, which may be alike, and where the lines of those begin that it leaves out.
 fn rows_text(
     alloc: Global,
     places: &[Place<'_, '_>],
     are_alike: bool,
-) -> Result<(String, usize), Error>
+) -> Result<(String, Vec<usize>), Error>
     requires sorted { IsSorted row_cmp (rows_shown (rows_placed places.now)) }
     requires labels { AllByRecursion (λ p. IsSorted label_cmp p.row.now.labels) places.now }
     requires alike { IsTrue are_alike → AreAlike (rows_placed places.now) }
     ensures ok { (cells : Cells) → AllByRecursion (λ p. Shows cells p.row.now) places.now → IfOk result
         (λ t. string_bytes t.0
         ≡ rows_text cells (rows_shown (rows_placed places.now)) None (rows_shown (rows_placed places.now))) }
-    ensures number { IfOk result (λ t. AreLeftOut (rows_shown (rows_placed places.now)) t.1) }
+    ensures number { IfOk result (λ t. AreLeftOut (rows_shown (rows_placed places.now)) (length t.1.items)) }
+    ensures places { IfOk result (λ t. BeginLeftOut (string_bytes t.0) t.1.items) }
     ensures err { IfErr result (λ e. e ≡ OutOfMemory) }
 {
     let histograms = histogram_names(alloc, places, are_alike)?;
     let line = begun_line(alloc, places, are_alike)?;
     let begun = line.as_deref();
     let mut text = String::with_capacity(alloc, places.len().saturating_mul(ROW_BYTES))?;
-    let mut left_out = 0;
+    let mut left_out = Vec::new(alloc);
     let mut last = None;
     for place in places {
+        let at = text.len();
         if write_row(alloc, &mut text, &histograms, begun, last, place.row)? {
             last = Some(place.row);
         } else {
-            left_out += 1;
+            left_out.push(at)?;
         }
     }
     Ok((text, left_out))
@@ -262,7 +265,7 @@ fn rows_text(
 /// the first series that is written under it, by that series' kind and own name. The naming decides names and units; units are
 /// those of the descriptions. Numbers are whole numbers of the last of their name's decimal places, bounds and sums too.
 ///
-/// Returns the text with the number of series that it leaves out. The whole text is in memory, with a row for each series. Fails
+/// Returns the text with the places of what it leaves out. The whole text is in memory, with a row for each series. Fails
 /// with `Error::Memory` when out of memory, and never for an empty list. A repeated series is written once.
 pub fn counted_exposition_of<P: DecimalPlaces, S: ReadSeries>(
     alloc: Global,
@@ -285,7 +288,7 @@ pub fn counted_exposition_of<P: DecimalPlaces, S: ReadSeries>(
     if series.is_empty() {
         return Ok(CountedText {
             text: String::new(alloc),
-            left_out: 0,
+            left_out: Vec::new(alloc),
         });
     }
     let (rows, have_one_head) = rows_of(alloc, naming, scale, descriptions, series)?;
@@ -339,7 +342,7 @@ pub fn exposition_of<S: ReadSeries>(
 /// Writes the held series in Prometheus's text format, version 0.0.4, each name after its description in the exporter. The
 /// naming decides names and units. Numbers are whole numbers of the last of their name's decimal places.
 ///
-/// Returns the text with the number of series that it leaves out. The whole text is in memory, with a row for each series. Fails
+/// Returns the text with the places of what it leaves out. The whole text is in memory, with a row for each series. Fails
 /// with `Error::Memory` when out of memory, and never if no series is held.
 pub fn counted_exposition<P: DecimalPlaces>(
     exporter: &Exporter,

@@ -171,24 +171,28 @@ fn hand_out_shown<S: Surroundings>(
         Ok(shown) => {
             on.is_changed = false;
             note_left_out(on, around, watch, &shown);
-            let shown = shown.text.as_str();
-            if !hand_out(around, &on.exporter, on.has_file, shown) {
+            if !hand_out(around, &on.exporter, on.has_file, shown.text.as_str()) {
                 on.has_failed = true;
             }
-            write_shown(on.has_file, shown, text)
+            write_shown(on.has_file, shown.text, text)
         }
         Err(e) => write_refusal(on, watch, Call::Scrape, Err(e), text),
     }
 }
 
-/// Appends a text and an empty line, unless it went to the file.
-fn write_shown(has_file: bool, shown: &str, text: &mut String) -> Result<(), AllocError>
-    ensures { OnOk result (string_bytes text.new ≡ string_bytes text.old ++ scrape_text has_file shown.now) }
+/// Appends a text and an empty line, unless it went to the file. It takes an empty text's place, and isn't copied.
+fn write_shown(has_file: bool, shown: String, text: &mut String) -> Result<(), AllocError>
+    ensures { OnOk result (string_bytes text.new
+        ≡ string_bytes text.old ++ scrape_text has_file (string_bytes shown)) }
 {
     if has_file {
         return Ok(());
     }
-    text.push_str(shown)?;
+    if text.is_empty() {
+        *text = shown;
+    } else {
+        text.push_str(shown.as_str())?;
+    }
     text.push_str("\n")
 }
 

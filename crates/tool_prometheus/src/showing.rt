@@ -106,7 +106,7 @@ fn own_text(alloc: Global, on: &Served) -> Result<CountedText, Error>
 {
     let held = on.exporter.len() as u64;
     let shown = text_leaving(alloc, on, held, 0)?;
-    let left_out = shown.left_out;
+    let left_out = shown.left_out.len();
     if left_out == 0 {
         return Ok(shown);
     }

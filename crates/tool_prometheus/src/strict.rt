@@ -62,10 +62,10 @@ pub(crate) fn note_left_out<S: Surroundings>(
     } }
     ensures asked { Asks (S.asked around.old) (S.asked around.new) nothing_asked }
 {
-    if shown.left_out == 0 {
+    if shown.left_out.is_empty() {
         return;
     }
-    watch.tell_left_out(around, shown.text.as_str());
+    watch.tell_left_out(around, shown);
     if on.is_strict {
         on.has_bad = true;
     }

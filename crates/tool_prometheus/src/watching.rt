@@ -3,7 +3,7 @@ ghost use Rattle.tool_prometheus.specs.Asked.{Asks, nothing_asked};
 
 use crate::surroundings::Surroundings;
 use metrics::Label;
-use metrics_prometheus::left_out;
+use metrics_prometheus::{CountedText, left_out_at};
 use std::alloc::Global;
 use std::collections::HashSet;
 use std::{fmt, mem};
@@ -114,16 +114,15 @@ impl Watch {
         }
     }
 
-    /// Reports each series that a text leaves out, and why, once. Out of memory, a later text's report has them.
+    /// Reports each series that a text leaves out, and why, once.
     #[tactic(auto, using(crate::proofs::AskedLemmas::asks_none, crate::proofs::AskedLemmas::asks_later))]
-    pub(crate) fn tell_left_out<S: Surroundings>(&mut self, around: &mut S, text: &str)
+    pub(crate) fn tell_left_out<S: Surroundings>(&mut self, around: &mut S, shown: &CountedText)
         ensures { Asks (S.asked around.old) (S.asked around.new) nothing_asked }
     {
-        let Ok(found) = left_out(self.alloc, text) else {
-            return;
-        };
-        for words in &found {
-            self.tell_once(around, words);
+        for place in &shown.left_out {
+            if let Some(words) = left_out_at(shown.text.as_str(), *place) {
+                self.tell_once(around, words);
+            }
         }
     }
 

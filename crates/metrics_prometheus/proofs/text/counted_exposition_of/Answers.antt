@@ -1,5 +1,6 @@
-use Rattle.std.proofs.Common.{rules, ◌≡◌, List, [], None, map, length, arith, string_bytes, sym, subst}
+use Rattle.std.proofs.Common.{rules, ◌≡◌, ℕ, List, [], None, map, length, arith, string_bytes, sym, subst}
 use Rattle.std.specs.List.{AllByRecursion}
+use Rattle.std.proofs.lemmas.List.Elements.{All-nil}
 use Rattle.metrics_exporter.specs.Exporting.{Cells}
 use Rattle.metrics_exporter.specs.Readings.{cells_of_readings, AreReadings, AreOnce}
 use Rattle.std.specs.List.Sorted.{IsSorted}
@@ -10,7 +11,7 @@ use Rattle.metrics_prometheus.specs.declared.rows.Place.{Place}
 use Rattle.metrics_descriptions.specs.Legends.{described_by}
 use Rattle.metrics_exposition.specs.Naming.{display_by}
 use Rattle.metrics_prometheus.specs.Places.{rows_placed, AreAlike}
-use Rattle.metrics_prometheus.specs.LeftOut.{LeavesOut}
+use Rattle.metrics_prometheus.specs.LeftOut.{LeavesOut, BeginLeftOut}
 use Rattle.metrics_prometheus.specs.Written.{AreLeftOut}
 use Rattle.metrics_prometheus.specs.Rows.{rows_shown, pair_shown, pair_of, keyed_shown, Shows}
 use Rattle.metrics_prometheus.proofs.HeldLemmas.{holds-texts, kept-texts, none-given, none-long}
@@ -61,9 +62,10 @@ invariant_of-result-2 g c =
       is = shows cells (each-mapped (λ p. p.row.now) (Shows cells) places (rows-show display cells rows kept is.own));
     } in
     let text = string_bytes c.in_ok-text.text in
-    let left = subst (λ (ps : List Place). AreLeftOut (rows_shown (rows_placed ps)) c.in_ok-text.left_out) c.deref-2.ensures.value c.in_ok-text.ensures.number in
-    let whole = rows-leave cells text scaled c.in_ok-text.left_out left in
-    record { number = number-of text c.in_ok-text.left_out whole; whole = whole }
+    let n = length c.in_ok-text.left_out.items in
+    let left = subst (λ (ps : List Place). AreLeftOut (rows_shown (rows_placed ps)) n) c.deref-2.ensures.value c.in_ok-text.ensures.number in
+    let whole = rows-leave cells text scaled n left in
+    record { number = number-of text n whole; whole = whole; places = c.in_ok-text.ensures.places }
 
 pub returns-clause-ok : goal.returns-clause-ok
 returns-clause-ok g c = λ cells are.
@@ -110,8 +112,10 @@ returns-clause-each g c =
 
 pub invariant_of-result : goal.invariant_of-result
 invariant_of-result g c =
-    let whole : LeavesOut (string_bytes c.new.result) 0 = subst (λ t. LeavesOut t 0) (sym c.new.ensures.bytes) none-left in
-    record { number = number-of (string_bytes c.new.result) 0 whole; whole = whole }
+    let text = string_bytes c.new.result in
+    let none : List ℕ = c.new-then-is_empty.result.items in
+    let whole = subst (λ (l : List ℕ). LeavesOut text (length l)) (sym c.new-then-is_empty.ensures.items) (subst (λ t. LeavesOut t 0) (sym c.new.ensures.bytes) none-left) in
+    record { number = number-of text (length none) whole; whole = whole; places = subst (λ (l : List ℕ). BeginLeftOut text l) (sym c.new-then-is_empty.ensures.items) (All-nil _) }
 
 pub returns-then-is_empty-clause-ok : goal.returns-then-is_empty-clause-ok
 returns-then-is_empty-clause-ok g c = λ cells are.

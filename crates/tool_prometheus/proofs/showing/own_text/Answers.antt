@@ -14,7 +14,7 @@ returns-then-left_out-eq0-clause-ok c = λ setup log after.
     let (held, number, is) = c.len-held.ensures setup log after in
     let before = c.in_ok-shown.ensures.ok setup log after in
     counted (own_of on) on.naming (described on.exporter) (kept_places on.dialect.places on.front) (cells_after setup (steps log)) (counted_bytes first) (counted_bytes first)
-    c.len-held.result held 0 number is before (sym c.if-left_out-eq0.true ∙ first.number) before
+    c.len-held.result held 0 number is before (sym c.if-left_out-eq0.true ∙ c.len-left_out.ensures ∙ first.left_out.ok.0 ∙ first.number) before
 
 pub returns-clause-ok : goal.returns-clause-ok
 returns-clause-ok c = λ setup log after.
@@ -23,5 +23,5 @@ returns-clause-ok c = λ setup log after.
     let (held, number, is) = c.len-held.ensures setup log after in
     if-ok c.text_leaving-2.result
     (λ shown shows. counted (own_of on) on.naming (described on.exporter) (kept_places on.dialect.places on.front) (cells_after setup (steps log)) (counted_bytes first)
-    (counted_bytes shown) c.len-held.result held first.left_out number is (c.in_ok-shown.ensures.ok setup log after) first.number shows)
+    (counted_bytes shown) c.len-held.result held c.len-left_out.result number is (c.in_ok-shown.ensures.ok setup log after) (c.len-left_out.ensures ∙ first.left_out.ok.0 ∙ first.number) shows)
     (c.text_leaving-2.ensures.ok setup log after)
