@@ -1,5 +1,5 @@
 //! The series of a collector, and their readings: which series are shown, and which leave.
-ghost use Rattle.std.specs.Prelude.{◌≡◌, ◌⊎◌, ◌++◌, ◌∷◌, [], ℕ, true, false, None, OnOk, IfOk, IfErr, if◌then◌else◌};
+ghost use Rattle.std.specs.Prelude.{◌≡◌, ◌⊎◌, ℕ, true, false, None, OnOk, IfOk, IfErr, if◌then◌else◌};
 ghost use Rattle.std.specs.Arc.{arc_value};
 ghost use Rattle.std.specs.Fn.{FnOnceReturnsAt};
 ghost use Rattle.metrics.specs.declared.error.Error.TheVariants.{Memory as OutOfMemory, BadShards as NotShards};
@@ -17,7 +17,7 @@ use crate::cells::{
     CollectorCells, CounterHandle, GaugeHandle, HistogramHandle, Seen, SharedCell, Watched,
 };
 use crate::epoch::Epoch;
-use crate::gathered::{Gathered, GatheredSeries, Value};
+use crate::gathered::{Gathered, GatheredSeries};
 use crate::rows::Rows;
 use metrics::{Error, Key, MetricKind, MetricKindMask};
 use metrics_counts::CountNotes;
@@ -262,22 +262,6 @@ impl Readings {
         }
     }
 
-    /// Adds a series with what it holds. If that fails, the next reading finds it new.
-    fn show<C: Watched>(
-        &mut self,
-        reading: &mut Reading,
-        key: &Key,
-        value: Value,
-    ) -> Result<(), Error>
-        ensures { OnOk result (reading.new.rows ≡ reading.old.rows ++ record { key = key.now; value = value } ∷ []) }
-    {
-        let pushed = reading.rows.push(key, value);
-        if pushed.is_err() {
-            self.recency.forget(C::kind(), key);
-        }
-        Ok(pushed?)
-    }
-
     /// Reads a cell once. A series is looked at with the generation that it then had, unless no timeout asks for one.
     fn look_at<W: Wait, C: Watched>(
         &mut self,
@@ -298,7 +282,13 @@ impl Readings {
         let Seen { generation, value } = cell.seen(rt)?;
         let recency = &mut self.recency;
         match look(recency, C::kind(), key, generation, has_clones, reading.now)? {
-            Fate::Shown => return self.show::<C>(reading, key, value),
+            Fate::Shown => {
+                if let Err(refused) = reading.rows.push(key, value) {
+                    // The next reading finds it new.
+                    recency.forget(C::kind(), key);
+                    return Err(Error::from(refused));
+                }
+            }
             Fate::Hidden => reading.has_held_idle = true,
             Fate::Gone => found.push(Idle {
                 key: key.clone()?,
