@@ -225,7 +225,7 @@ fn with_output<'a>(alloc: Global, command: Command<'a>) -> Result<Command<'a>, A
 fn command_line<'a>(alloc: Global) -> Result<Command<'a>, AllocError> {
     let command = Command::new(alloc, "metrics_prometheus_tool")
         .bin_name("metrics_prometheus_tool")?
-        .version("0.17.1")
+        .version("0.18.0")
         .about(
             "Reads updates of series from standard input, and writes the series in Prometheus's text\n\
             format at each scrape.",
