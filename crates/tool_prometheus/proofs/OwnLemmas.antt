@@ -1,10 +1,10 @@
 -- The series about the program itself, beside those that are held.
-use Rattle.std.proofs.Common.{◌≡◌, ◌∙◌, ℕ, ◌^◌, ◌-◌, min, pos, Bool, true, false, not, cond, ◌||◌, List, [], ◌∷◌, ◌++◌, map, codes, Option, Some, Result, Ok, Err, OnOk, IfOk, refl, ap, sym, subst, arith, inl, inr}
+use Rattle.std.proofs.Common.{◌≡◌, ◌∙◌, ℕ, ◌^◌, ◌-◌, min, pos, Bool, true, false, not, cond, ◌||◌, List, [], ◌∷◌, ◌++◌, map, codes, Option, Some, Result, Ok, Err, IfOk, refl, ap, sym, subst, arith, inl, inr}
 use Rattle.std.specs.Prelude.{Contains, option_map}
-use Rattle.std.specs.Bool.{Decides}
 use Rattle.std.specs.List.{filter, list_any, IsDistinct, AllByRecursion}
 use Rattle.std.specs.Set.{is_member}
 use Rattle.std.proofs.lemmas.Bool.{false≢true}
+use Rattle.std.proofs.lemmas.Bool.Decides.{Decides-like, same_from_decides}
 use Rattle.std.proofs.lemmas.List.{map-append}
 use Rattle.std.proofs.lemmas.List.Elements.{Contains-append_left, Contains-push, Contains-push_cases}
 use Rattle.std.proofs.lemmas.Map.Keys.{IsDistinct-push}
@@ -23,24 +23,15 @@ use Rattle.metrics_prometheus.specs.Exposition.{IsScaled}
 use Rattle.metrics_prometheus.specs.LeftOut.{left_out_number}
 use Rattle.tool_prometheus.specs.Own.{Own, own_key, own_counter, own_gauge, own_moment, own_series, own_places, with_series, with_own, IsExposedOwn, IsShown}
 
--- ---- keys
-
--- two tests of one fact
-same-test : {P Q : Type 0} (a b : Bool) → Decides a P → Decides b Q → (P → Q) → (Q → P) → a ≡ b
-same-test true true h g to from = refl
-same-test false false h g to from = refl
-same-test true false h g to from = absurd (false≢true (g.1 (to (h.0 refl))))
-same-test false true h g to from = absurd (false≢true (h.1 (from (g.0 refl))))
-
 -- ---- the number of the series that are held
 
 pub held-one : (cells : Cells) (n m : ℕ) → IsHeldNumber cells n → IsHeldNumber cells m → n ≡ m
 held-one cells n m h g =
     h.number
     ∙ length-from_same_keys key_laws h.keys g.keys h.once g.once
-    (λ q. same-test (is_member series_key_eq h.keys q) (is_member series_key_eq g.keys q)
-    (is_member-Decides series_key_eq-Decides h.keys q) (is_member-Decides series_key_eq-Decides g.keys q)
-    (λ has. (g.held q).1 ((h.held q).0 has)) (λ has. (h.held q).1 ((g.held q).0 has)))
+    (λ q. same_from_decides (is_member series_key_eq h.keys q) (is_member series_key_eq g.keys q)
+    (Decides-like _ (λ has. (g.held q).1 ((h.held q).0 has)) (λ has. (h.held q).1 ((g.held q).0 has))
+    (is_member-Decides series_key_eq-Decides h.keys q)) (is_member-Decides series_key_eq-Decides g.keys q))
     ∙ sym g.number
 
 -- the number of a gauge is that of a number of 64 bits, or greater
@@ -162,11 +153,6 @@ kept-rows t (r ∷ rows) = by (series_key_eq t.0 (keyed_reading r).0) (kept-rows
     by false rest = ap (λ l. keyed_reading r ∷ l) rest
 
 -- ---- rows one after another
-
--- what follows where a call succeeded
-pub then-ok : {A E P Q : Type 0} (r : Result A E) → (P → Q) → OnOk r P → OnOk r Q
-then-ok (Ok a) f h = f h
-then-ok (Err e) f h = h
 
 joined : (r : List KeyedReading) (a b c d e : KeyedReading) (m : List KeyedReading)
     → (((((r ++ a ∷ []) ++ b ∷ []) ++ c ∷ []) ++ d ∷ []) ++ e ∷ []) ++ m ≡ r ++ (a ∷ b ∷ c ∷ d ∷ e ∷ m)

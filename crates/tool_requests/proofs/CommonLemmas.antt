@@ -3,7 +3,7 @@ use Rattle.std.proofs.Common.{◌≡◌, ◌∙◌, ℕ, Bool, true, false, cond
 use Rattle.std.specs.Prelude.{Option, None, Some, bytes_eq}
 use Rattle.std.specs.Option.{option_or}
 use Rattle.std.specs.Ordering.{is_lt}
-use Rattle.std.specs.Bool.{Decides}
+use Rattle.std.proofs.lemmas.Bool.{false_from_ne_true, or_parts, true_from_ne_false}
 use Rattle.std.proofs.lemmas.Slice.Eq.{bytes_eq-Decides}
 use Rattle.std.proofs.lemmas.List.Folds.{list_any_at, list_any_none}
 use Rattle.metrics_names.specs.Names.{LabelParts, label_cmp}
@@ -12,48 +12,36 @@ use Rattle.tool_requests.specs.Lines.{LacksKey, has_key, with_label, with_labels
 
 -- ---- whether a label has a key
 
-not-so : {P : Type 0} (b : Bool) → Decides b P → (P → ⊥) → b ≡ false
-not-so true decides never = absurd (never (decides.0 refl))
-not-so false decides never = refl
-
 pub lacks-key : (key : List ℕ) (labels : List LabelParts) → has_key key labels ≡ false → LacksKey key labels
 lacks-key key labels none = λ k d small e.
     true≢false (sym (list_any_at (λ l. bytes_eq l.0 key) labels k d small ((bytes_eq-Decides (get_or labels k d).0 key).1 e)) ∙ none)
 
 pub key-lacking : (key : List ℕ) (labels : List LabelParts) → LacksKey key labels → has_key key labels ≡ false
 key-lacking key labels lacks = list_any_none (λ l. bytes_eq l.0 key) labels
-    (λ k d small. not-so (bytes_eq (get_or labels k d).0 key) (bytes_eq-Decides (get_or labels k d).0 key) (lacks k d small))
+    (λ k d small. false_from_ne_true _ (λ e. lacks k d small ((bytes_eq-Decides (get_or labels k d).0 key).0 e)))
 
 -- ---- one common label
 
 pub stays : (l : LabelParts) (labels : List LabelParts) → (LacksKey l.0 labels → ⊥) → with_label l labels ≡ labels
-stays l labels has = ap (λ b. cond b labels (placed l labels)) (there (has_key l.0 labels) refl)
-  where
-    there : (b : Bool) → has_key l.0 labels ≡ b → has_key l.0 labels ≡ true
-    there true e = e
-    there false e = absurd (has (lacks-key l.0 labels e))
+stays l labels has = ap (λ b. cond b labels (placed l labels)) (true_from_ne_false _ (λ e. has (lacks-key l.0 labels e)))
 
 pub joins : (l : LabelParts) (labels : List LabelParts) → LacksKey l.0 labels → with_label l labels ≡ placed l labels
 joins l labels lacks = ap (λ b. cond b labels (placed l labels)) (key-lacking l.0 labels lacks)
 
 -- ---- the value of a key
 
-or-none : {T : Type 0} (o : Option T) → option_or o None ≡ o
+pub or-none : {T : Type 0} (o : Option T) → option_or o None ≡ o
 or-none None = refl
 or-none (Some x) = refl
 
-or-or : {T : Type 0} (a b c : Option T) → option_or (option_or a b) c ≡ option_or a (option_or b c)
+pub or-or : {T : Type 0} (a b c : Option T) → option_or (option_or a b) c ≡ option_or a (option_or b c)
 or-or None b c = refl
 or-or (Some x) b c = refl
-
-or-split : (a b : Bool) → (a || b) ≡ false → (a ≡ false) × (b ≡ false)
-or-split true b e = absurd (true≢false e)
-or-split false b e = (refl, e)
 
 no-value : (key : List ℕ) (ms : List LabelParts) → has_key key ms ≡ false → value_of key ms ≡ None
 no-value key [] none = refl
 no-value key (m ∷ ms) none =
-    let parts = or-split (bytes_eq m.0 key) (has_key key ms) none in
+    let parts = or_parts (bytes_eq m.0 key) (has_key key ms) none in
     ap (λ b. cond b (Some m.1) (value_of key ms)) parts.0 ∙ no-value key ms parts.1
 
 some-value : (key : List ℕ) (ms : List LabelParts) (o : Option (List ℕ)) → has_key key ms ≡ true → option_or (value_of key ms) o ≡ value_of key ms
@@ -79,7 +67,7 @@ module _ (key : List ℕ) (l : LabelParts) where
   placed-value : (ms : List LabelParts) → has_key l.0 ms ≡ false → value_of key (placed l ms) ≡ option_or (value_of key ms) (value_of key (l ∷ []))
   placed-value [] none = refl
   placed-value (m ∷ ms) none = by (is_lt (label_cmp l m))
-      (after (bytes_eq m.0 key) (placed-value ms (or-split (bytes_eq m.0 l.0) (has_key l.0 ms) none).1))
+      (after (bytes_eq m.0 key) (placed-value ms (or_parts (bytes_eq m.0 l.0) (has_key l.0 ms) none).1))
     where
       after : (b : Bool) → value_of key (placed l ms) ≡ option_or (value_of key ms) (value_of key (l ∷ []))
           → cond b (Some m.1) (value_of key (placed l ms)) ≡ option_or (cond b (Some m.1) (value_of key ms)) (value_of key (l ∷ []))

@@ -1,6 +1,6 @@
 -- Quoted values.
 use Rattle.std.proofs.Common.{◌≡◌, ◌≢◌, ◌∙◌, ℕ, Bool, true, false, cond, List, [], ◌∷◌, ◌++◌, codes, drop, get_or, nat_eq, append_assoc, refl, ap, sym, arith}
-use Rattle.std.proofs.lemmas.Bool.{eqb-true, eq-eqb}
+use Rattle.std.proofs.lemmas.Bool.{eqb-true, eqb-false}
 use Rattle.tool_requests.specs.Lines.{escape, escaped, StartsElse}
 
 -- a character's escape
@@ -10,9 +10,6 @@ pub data Escape (c : ℕ) (bs : List ℕ) : Type 0 where
   feed : c ≡ 10 → bs ≡ 92 ∷ 110 ∷ [] → Escape c bs
   itself : c ≢ 92 → c ≢ 34 → c ≢ 10 → bs ≡ c ∷ [] → Escape c bs
 
-other : (c k : ℕ) → nat_eq c k ≡ false → c ≢ k
-other c k h e = absurd (let g : true ≡ false = sym (eq-eqb c k e) ∙ h in cc)
-
 abbrev third : ℕ → Bool → List ℕ
 third c z = cond z (codes "\\n") (c ∷ [])
 
@@ -21,7 +18,7 @@ second c y z = cond y (codes "\\\"") (third c z)
 
 by-feed : (c : ℕ) (z : Bool) → nat_eq c 10 ≡ z → nat_eq c 92 ≡ false → nat_eq c 34 ≡ false → Escape c (third c z)
 by-feed c true e s q = feed (eqb-true c 10 e) refl
-by-feed c false e s q = itself (other c 92 s) (other c 34 q) (other c 10 e) refl
+by-feed c false e s q = itself (eqb-false c 92 s) (eqb-false c 34 q) (eqb-false c 10 e) refl
 
 by-quote : (c : ℕ) (y : Bool) → nat_eq c 34 ≡ y → nat_eq c 92 ≡ false → Escape c (second c y (nat_eq c 10))
 by-quote c true e s = quote (eqb-true c 34 e) refl

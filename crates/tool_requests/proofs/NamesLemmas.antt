@@ -1,6 +1,6 @@
 -- Names by rules.
 use Rattle.std.proofs.Common.{◌≡◌, ◌∙◌, ℕ, List, [], ◌∷◌, refl, ap, sym}
-use Rattle.std.specs.Prelude.{Option, None, Some, option_map}
+use Rattle.std.specs.Prelude.{None, Some, option_map}
 use Rattle.std.specs.Option.{option_or}
 use Rattle.std.specs.List.{FoldsTo}
 use Rattle.metrics_names.specs.Names.{KeyParts, LabelParts}
@@ -8,15 +8,8 @@ use Rattle.metrics_rules.specs.Visits.{shown}
 use Rattle.tool_requests.specs.declared.renaming.First.{First}
 use Rattle.tool_requests.specs.declared.requests.Request.{Request}
 use Rattle.tool_requests.specs.declared.requests.Request.TheVariants.{Change, Describe, Scrape, Nothing}
+use Rattle.tool_requests.proofs.CommonLemmas.{or-none, or-or}
 use Rattle.tool_requests.specs.Names.{first_name, named_key, ruled_name, renamed}
-
-or-none : {A : Type 0} (o : Option A) → option_or o None ≡ o
-or-none None = refl
-or-none (Some x) = refl
-
-or-found : {A : Type 0} (o : Option A) (x : A) (later : Option A) → option_or (option_or o (Some x)) later ≡ option_or o (Some x)
-or-found None x later = refl
-or-found (Some y) x later = refl
 
 -- a visitor that copies the first key
 pub first-found : (labels : List LabelParts) (v : First) (ts : List (ℕ × List ℕ)) (w : First)
@@ -25,7 +18,7 @@ pub first-found : (labels : List LabelParts) (v : First) (ts : List (ℕ × List
 first-found labels v [] w h = ap (λ z. z.found) (sym h) ∙ sym (or-none v.found)
 first-found labels v (t ∷ ts) w (u, is, rest) =
     first-found labels u ts w rest ∙ ap (λ o. option_or o (option_map (named_key labels) (first_name ts))) is
-    ∙ or-found v.found (named_key labels t.1) (option_map (named_key labels) (first_name ts))
+    ∙ or-or v.found (Some (named_key labels t.1)) (option_map (named_key labels) (first_name ts))
 
 -- without rules each name stays
 pub stays_named : (request : Request) → request ≡ renamed (ruled_name None) request

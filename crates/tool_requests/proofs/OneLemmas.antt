@@ -1,17 +1,15 @@
 -- A line spells at most one request.
 use Rattle.std.proofs.Common.{◌≡◌, ◌∙◌, ℕ, List, [], ◌∷◌, ◌++◌, codes, drop, refl, ap, sym, subst, arith}
-use Rattle.std.specs.Prelude.{Option, Some}
+use Rattle.std.specs.Prelude.{Some}
 use Rattle.std.proofs.lemmas.Fmt.{decimal_injective}
 use Rattle.metrics_names.specs.Names.{LabelParts, name_word}
-use Rattle.metrics_names.specs.declared.kind.MetricKind.{MetricKind}
-use Rattle.metrics_names.specs.declared.common.Unit.{Unit as Measure}
 use Rattle.metrics.specs.declared.handles.Update.{Update}
 use Rattle.metrics.specs.declared.handles.Update.TheVariants.{Increment, Absolute, Add, Subtract, Set, Record}
 use Rattle.metrics.specs.declared.calls.Call.{Call}
 use Rattle.metrics.specs.declared.calls.Call.TheVariants as call
 use Rattle.metrics_exposition.specs.Labels.{placed}
 use Rattle.tool_grammar.specs.Cuts.{Lacks, StartsAt}
-use Rattle.tool_grammar.specs.Grammar.{spelling as call_spelling}
+use Rattle.tool_grammar.specs.Grammar.{update_word, spelling as call_spelling}
 use Rattle.tool_numbers.specs.Numerals.{IsAmount}
 use Rattle.tool_numbers.proofs.AmountLemmas.{amount-lacks, amount-same}
 use Rattle.tool_requests.specs.declared.dialect.Dialect.{Dialect}
@@ -47,42 +45,23 @@ request_of (call.SnapshotWith b reset) = Nothing
 
 -- ---- lines
 
-begun : (s : Sentence) → IsOther s → IsBegun (first_word s ++ behind_it s)
-begun (change (Increment n) amount name ws) o = λ e. omega (arith, e)
-begun (change (Absolute n) amount name ws) o = λ e. omega (arith, e)
-begun (change (Add n) amount name ws) o = λ e. omega (arith, e)
-begun (change (Subtract n) amount name ws) o = λ e. omega (arith, e)
-begun (change (Set n) amount name ws) o = λ e. omega (arith, e)
-begun (change (Record n) amount name ws) o = λ e. omega (arith, e)
-begun (describe kind name unit text) o = λ e. omega (arith, e)
-begun (scrape now) o = λ e. omega (arith, e)
-begun scrape_by_clock o = λ e. omega (arith, e)
-begun (comment text) o = absurd o
-begun empty o = absurd o
+begun : (u : Update) (rest : List ℕ) → IsBegun (update_word u ++ rest)
+begun (Increment n) rest = λ e. omega (arith, e)
+begun (Absolute n) rest = λ e. omega (arith, e)
+begun (Add n) rest = λ e. omega (arith, e)
+begun (Subtract n) rest = λ e. omega (arith, e)
+begun (Set n) rest = λ e. omega (arith, e)
+begun (Record n) rest = λ e. omega (arith, e)
 
-lacks : (s : Sentence) → IsOther s → Lacks 32 (first_word s)
-lacks (change by amount name ws) o = lacks_update by
-lacks (describe kind name unit text) o = lacks_literal 32 (codes "describe") refl
-lacks (scrape now) o = lacks_literal 32 (codes "scrape") refl
-lacks scrape_by_clock o = lacks_literal 32 (codes "scrape") refl
-lacks (comment text) o = absurd o
-lacks empty o = absurd o
-
-starts : (s : Sentence) → IsOther s → StartsAt 32 (behind_it s)
-starts (change by amount name ws) o = refl
-starts (describe kind name unit text) o = refl
-starts (scrape now) o = refl
-starts scrape_by_clock o = tt
-starts (comment text) o = absurd o
-starts empty o = absurd o
-
-cut-is : (s : Sentence) → IsOther s → spelling s ≡ first_word s ++ behind_it s
-cut-is (change by amount name ws) o = refl
-cut-is (describe kind name unit text) o = refl
-cut-is (scrape now) o = refl
-cut-is scrape_by_clock o = refl
-cut-is (comment text) o = absurd o
-cut-is empty o = absurd o
+-- the first word of a sentence, and what follows it
+parts : (s : Sentence) → IsOther s → Lacks 32 (first_word s) × StartsAt 32 (behind_it s) × IsBegun (first_word s ++ behind_it s)
+    × (spelling s ≡ first_word s ++ behind_it s)
+parts (change by amount name ws) o = (lacks_update by, refl, begun by _, refl)
+parts (describe kind name unit text) o = (lacks_literal 32 (codes "describe") refl, refl, λ e. omega (arith, e), refl)
+parts (scrape now) o = (lacks_literal 32 (codes "scrape") refl, refl, λ e. omega (arith, e), refl)
+parts scrape_by_clock o = (lacks_literal 32 (codes "scrape") refl, tt, λ e. omega (arith, e), refl)
+parts (comment text) o = absurd o
+parts empty o = absurd o
 
 -- ---- two sentences of one line, by the first
 
@@ -91,62 +70,51 @@ module _ (dialect : Dialect) where
   Same s t = CanBeSpelled dialect s → CanBeSpelled dialect t → IsOther t × (first_word s ≡ first_word t) × (behind_it s ≡ behind_it t)
       → spelling s ≡ spelling t → request_in dialect.labels s ≡ request_in dialect.labels t
 
-  change-same : (by : Update) (amount name : List ℕ) (ws : List Written) (t : Sentence) → Same (change by amount name ws) t
-  change-same by amount name ws (change u given n vs) h g (o, w, b) e =
+  by-first : (s t : Sentence) → IsOther s → Same s t
+  by-first (change by amount name ws) (change u given n vs) other h g (o, w, b) e =
       let tail = ap (drop 1) b in
       let amounts = first_same 32 (amount ++ 32 ∷ (name_word name ++ label_words ws)) amount (name_word name ++ label_words ws)
       given (name_word n ++ label_words vs) (amount-lacks _ by amount h.0) (amount-lacks _ u given g.0) refl tail in
       let names = before_same 32 (name_word name) (name_word n) (label_words ws) (label_words vs) (lacks_name name h.1) (lacks_name n g.1)
       (starts-words ws) (starts-words vs) amounts.1 in
       let same = name_same name n (h.1.0.1, h.1.1, h.1.2) (g.1.0.1, g.1.1, g.1.2) names.0 in
-      let other : IsAmount (places_at dialect.places n) by given = subst (IsAmount (places_at dialect.places n) by) amounts.0 (subst (λ (z : List ℕ). IsAmount (places_at dialect.places z) by amount) same h.0) in
-      let updates = amount-same (places_at dialect.places n) by u given other g.0 w in
+      let spelled : IsAmount (places_at dialect.places n) by given = subst (IsAmount (places_at dialect.places n) by) amounts.0 (subst (λ (z : List ℕ). IsAmount (places_at dialect.places z) by amount) same h.0) in
+      let updates = amount-same (places_at dialect.places n) by u given spelled g.0 w in
       let labels = words-same ws vs [] [] h.2 g.2 names.1 in
       λ i. Change (record { name = same i; labels = with_labels dialect.labels (in_order (labels i)) }) (updates i)
-  change-same by amount name ws (describe kind n unit text) h g (o, w, b) e = absurd (no_describe by (sym w))
-  change-same by amount name ws (scrape now) h g (o, w, b) e = absurd (no_scrape by (sym w))
-  change-same by amount name ws scrape_by_clock h g (o, w, b) e = absurd (no_scrape by (sym w))
-  change-same by amount name ws (comment text) h g (o, w, b) e = absurd o
-  change-same by amount name ws empty h g (o, w, b) e = absurd o
-
-  describe-same : (kind : MetricKind) (name : List ℕ) (unit : Option Measure) (text : List ℕ) (t : Sentence) → Same (describe kind name unit text) t
-  describe-same kind name unit text (change u given n vs) h g (o, w, b) e = absurd (no_describe u w)
-  describe-same kind name unit text (describe k n m x) h g (o, w, b) e =
+  by-first (change by amount name ws) (describe kind n unit text) other h g (o, w, b) e = absurd (no_describe by (sym w))
+  by-first (change by amount name ws) (scrape now) other h g (o, w, b) e = absurd (no_scrape by (sym w))
+  by-first (change by amount name ws) scrape_by_clock other h g (o, w, b) e = absurd (no_scrape by (sym w))
+  by-first (change by amount name ws) (comment text) other h g (o, w, b) e = absurd o
+  by-first (change by amount name ws) empty other h g (o, w, b) e = absurd o
+  by-first (describe kind name unit text) (change u given n vs) other h g (o, w, b) e = absurd (no_describe u w)
+  by-first (describe kind name unit text) (describe k n m x) other h g (o, w, b) e =
       ap request_of (call_same (call_spelling (call.Describe kind name unit text)) (call.Describe kind name unit text) (call.Describe k n m x)
       (((h.0.0.1, h.0.1, h.0.2), h.1.1), refl) (((g.0.0.1, g.0.1, g.0.2), g.1.1), e))
-  describe-same kind name unit text (scrape now) h g (o, w, b) e = absurd (differs (sym w))
-  describe-same kind name unit text scrape_by_clock h g (o, w, b) e = absurd (differs (sym w))
-  describe-same kind name unit text (comment more) h g (o, w, b) e = absurd o
-  describe-same kind name unit text empty h g (o, w, b) e = absurd o
-
-  scrape-same : (now : ℕ) (t : Sentence) → Same (scrape now) t
-  scrape-same now (change u given n vs) h g (o, w, b) e = absurd (no_scrape u w)
-  scrape-same now (describe k n m x) h g (o, w, b) e = absurd (differs w)
-  scrape-same now (scrape n) h g (o, w, b) e = ap (λ m. Scrape (Some m)) (decimal_injective now n h g (ap (drop 1) b))
-  scrape-same now scrape_by_clock h g (o, w, b) e = absurd (cc)
-  scrape-same now (comment more) h g (o, w, b) e = absurd o
-  scrape-same now empty h g (o, w, b) e = absurd o
-
-  clock-same : (t : Sentence) → Same scrape_by_clock t
-  clock-same (change u given n vs) h g (o, w, b) e = absurd (no_scrape u w)
-  clock-same (describe k n m x) h g (o, w, b) e = absurd (differs w)
-  clock-same (scrape n) h g (o, w, b) e = absurd (cc)
-  clock-same scrape_by_clock h g (o, w, b) e = refl
-  clock-same (comment more) h g (o, w, b) e = absurd o
-  clock-same empty h g (o, w, b) e = absurd o
-
-  by-first : (s t : Sentence) → IsOther s → Same s t
-  by-first (change by amount name ws) t o = change-same by amount name ws t
-  by-first (describe kind name unit text) t o = describe-same kind name unit text t
-  by-first (scrape now) t o = scrape-same now t
-  by-first scrape_by_clock t o = clock-same t
-  by-first (comment text) t o = absurd o
-  by-first empty t o = absurd o
+  by-first (describe kind name unit text) (scrape now) other h g (o, w, b) e = absurd (differs (sym w))
+  by-first (describe kind name unit text) scrape_by_clock other h g (o, w, b) e = absurd (differs (sym w))
+  by-first (describe kind name unit text) (comment more) other h g (o, w, b) e = absurd o
+  by-first (describe kind name unit text) empty other h g (o, w, b) e = absurd o
+  by-first (scrape now) (change u given n vs) other h g (o, w, b) e = absurd (no_scrape u w)
+  by-first (scrape now) (describe k n m x) other h g (o, w, b) e = absurd (differs w)
+  by-first (scrape now) (scrape n) other h g (o, w, b) e = ap (λ m. Scrape (Some m)) (decimal_injective now n h g (ap (drop 1) b))
+  by-first (scrape now) scrape_by_clock other h g (o, w, b) e = absurd (cc)
+  by-first (scrape now) (comment more) other h g (o, w, b) e = absurd o
+  by-first (scrape now) empty other h g (o, w, b) e = absurd o
+  by-first scrape_by_clock (change u given n vs) other h g (o, w, b) e = absurd (no_scrape u w)
+  by-first scrape_by_clock (describe k n m x) other h g (o, w, b) e = absurd (differs w)
+  by-first scrape_by_clock (scrape n) other h g (o, w, b) e = absurd (cc)
+  by-first scrape_by_clock scrape_by_clock other h g (o, w, b) e = refl
+  by-first scrape_by_clock (comment more) other h g (o, w, b) e = absurd o
+  by-first scrape_by_clock empty other h g (o, w, b) e = absurd o
+  by-first (comment text) t other h g both e = absurd other
+  by-first empty t other h g both e = absurd other
 
   -- by the first, where it is neither a comment nor empty
   other-same : (s t : Sentence) → IsOther s → CanBeSpelled dialect s → CanBeSpelled dialect t → spelling s ≡ spelling t → request_in dialect.labels s ≡ request_in dialect.labels t
   other-same s t o h g e =
-      by-first s t o h g (cut (first_word s) (behind_it s) (lacks s o) (starts s o) (begun s o) t (sym (cut-is s o) ∙ e)) e
+      let (lacks, starts, begins, is) = parts s o in
+      by-first s t o h g (cut (first_word s) (behind_it s) lacks starts begins t (sym is ∙ e)) e
 
   sentences-same : (s t : Sentence) → CanBeSpelled dialect s → CanBeSpelled dialect t → spelling s ≡ spelling t → request_in dialect.labels s ≡ request_in dialect.labels t
   sentences-same (change by amount name ws) t h g e = other-same (change by amount name ws) t tt h g e

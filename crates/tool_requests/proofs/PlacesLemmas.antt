@@ -1,6 +1,7 @@
 -- The decimal places of the longest prefix of a name.
 use Rattle.std.proofs.Common.{◌≡◌, ◌∙◌, ℕ, ◌+◌, ◌<◌, ◌≤◌, Bool, true, false, cond, List, [], ◌∷◌, ◌++◌, length, take, get_or, None, Some, IsSome, ◌⊎◌, inl, inr, refl, ap, sym, subst, arith}
 use Rattle.std.specs.Prelude.{Option, bytes_eq}
+use Rattle.std.specs.Bool.{Decides}
 use Rattle.std.specs.Option.{option_or}
 use Rattle.std.proofs.lemmas.List.{take_more, take_all}
 use Rattle.std.proofs.lemmas.Slice.Eq.{bytes_eq-Decides}
@@ -20,21 +21,17 @@ set-more (y ∷ xs) x p =
     ap (λ o. option_or o (cond (bytes_eq p y.prefix) (Some y.places) None)) (set-more xs x p)
     ∙ or-cond (bytes_eq p x.prefix) x.places (places_set xs p) (cond (bytes_eq p y.prefix) (Some y.places) None)
 
--- a prefix that the longer list sets is the new one, or the shorter list sets it
-set-either : (b : Bool) (n : ℕ) (o : Option ℕ) → IsSome (cond b (Some n) o) → (b ≡ true) ⊎ IsSome o
-set-either true n o h = inl refl
-set-either false n o h = inr h
-
 module _ (xs : List PrefixPlaces) (x : PrefixPlaces) (name : List ℕ) where
   abbrev more : List PrefixPlaces
   more = xs ++ x ∷ []
 
+  -- a prefix that the longer list sets is the new one, or the shorter list sets it
   set-of : (q : List ℕ) → IsSome (places_set more q) → (q ≡ x.prefix) ⊎ IsSome (places_set xs q)
-  set-of q h = go (set-either (bytes_eq q x.prefix) x.places (places_set xs q) (subst IsSome (set-more xs x q) h))
+  set-of q h = go (bytes_eq q x.prefix) (bytes_eq-Decides q x.prefix) (subst IsSome (set-more xs x q) h)
     where
-      go : (bytes_eq q x.prefix ≡ true) ⊎ IsSome (places_set xs q) → (q ≡ x.prefix) ⊎ IsSome (places_set xs q)
-      go (inl h) = inl ((bytes_eq-Decides q x.prefix).0 h)
-      go (inr h) = inr h
+      go : (b : Bool) → Decides b (q ≡ x.prefix) → IsSome (cond b (Some x.places) (places_set xs q)) → (q ≡ x.prefix) ⊎ IsSome (places_set xs q)
+      go true same h = inl (same.0 refl)
+      go false same h = inr h
 
   own : places_set more x.prefix ≡ Some x.places
   own = set-more xs x x.prefix ∙ ap (λ b. cond b (Some x.places) (places_set xs x.prefix)) ((bytes_eq-Decides x.prefix x.prefix).1 refl)
@@ -76,7 +73,7 @@ module _ (xs : List PrefixPlaces) (x : PrefixPlaces) (name : List ℕ) where
       go (Some b) longer h q (inr some) at = let l = longer b refl in let m = h.longest q some at in omega (arith, l, m)
 
   -- the new one is no longer than the best
-  pub best-kept : (b : PrefixPlaces) → length x.prefix < length b.prefix → IsBest xs name (Some b) → IsBest more name (Some b)
+  best-kept : (b : PrefixPlaces) → length x.prefix < length b.prefix → IsBest xs name (Some b) → IsBest more name (Some b)
   best-kept b shorter h = record {
     has = set-more xs x b.prefix ∙ keeps (bytes_eq b.prefix x.prefix) refl;
     front = h.front;
@@ -109,22 +106,16 @@ longer-of best x other is longer b was =
 pub best-whole : (xs : List PrefixPlaces) (i : ℕ) (name : List ℕ) (best : Option PrefixPlaces) → length xs ≤ i → IsBest (take i xs) name best → IsBest xs name best
 best-whole xs i name best all h = subst (λ (ys : List PrefixPlaces). IsBest ys name best) (take_all i xs all) h
 
--- the best of the whole list decides
-pub best-places : (xs : List PrefixPlaces) (name : List ℕ) (b : PrefixPlaces) → IsBest xs name (Some b) → places_at xs name ≡ b.places
-best-places xs name b h = at-some (places_set xs) name 0 b.places b.prefix h
-
-pub no-places : (xs : List PrefixPlaces) (name : List ℕ) → IsBest xs name None → places_at xs name ≡ 0
-no-places xs name h = at-none (places_set xs) name 0 h
-
 -- one more of the list
 pub best-next : (xs : List PrefixPlaces) (i : ℕ) (x : PrefixPlaces) (name : List ℕ) (best : Option PrefixPlaces) → i < length xs → x ≡ get_or xs i x
     → IsBest (take i xs ++ x ∷ []) name best → IsBest (take (i + 1) xs) name best
 best-next xs i x name best small at h =
     subst (λ (ys : List PrefixPlaces). IsBest ys name best) (sym (take_more xs i x small)) (subst (λ (y : PrefixPlaces). IsBest (take i xs ++ y ∷ []) name best) at h)
 
+-- the best of the whole list decides
 pub best-found : (xs : List PrefixPlaces) (name : List ℕ) (best : Option PrefixPlaces) (b : PrefixPlaces) → best ≡ Some b → IsBest xs name best
     → b.places ≡ places_at xs name
-best-found xs name best b is h = sym (best-places xs name b (subst (IsBest xs name) is h))
+best-found xs name best b is h = sym (at-some (places_set xs) name 0 b.places b.prefix (subst (IsBest xs name) is h))
 
 pub best-none : (xs : List PrefixPlaces) (name : List ℕ) (best : Option PrefixPlaces) → best ≡ None → IsBest xs name best → 0 ≡ places_at xs name
-best-none xs name best is h = sym (no-places xs name (subst (IsBest xs name) is h))
+best-none xs name best is h = sym (at-none (places_set xs) name 0 (subst (IsBest xs name) is h))

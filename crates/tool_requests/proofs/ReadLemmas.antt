@@ -1,7 +1,8 @@
 -- What the parts of a line are read as.
-use Rattle.std.proofs.Common.{◌≡◌, ◌∙◌, ℕ, zero, suc, ◌<◌, ◌≤◌, ◌^◌, Bool, true, false, List, [], ◌∷◌, ◌++◌, codes, decimal, drop, take, get_or, length, append_assoc, refl, ap, sym, subst, arith}
+use Rattle.std.proofs.Common.{◌≡◌, ◌∙◌, ℕ, ◌<◌, ◌≤◌, ◌^◌, Bool, true, false, List, [], ◌∷◌, ◌++◌, codes, decimal, drop, take, get_or, length, append_assoc, refl, ap, sym, subst, arith}
 use Rattle.std.specs.Prelude.{Option, Some, Result, Ok, Err, MatchResult, IsUtf8}
 use Rattle.std.specs.List.{AllByRecursion}
+use Rattle.std.proofs.lemmas.List.{take_all}
 use Rattle.std.proofs.lemmas.Str.{IsUtf8-from_ascii}
 use Rattle.std.proofs.lemmas.Str.Ascii.{IsAscii-from_all}
 use Rattle.metrics_names.specs.Names.{LabelParts, name_word, kind_word}
@@ -19,19 +20,17 @@ use Rattle.tool_grammar.proofs.CallLemmas.{name_same}
 use Rattle.tool_requests.specs.declared.flaws.Unread.{Unread}
 use Rattle.tool_requests.specs.declared.flaws.Unread.TheVariants.{Memory, Bad}
 use Rattle.tool_requests.specs.declared.requests.Request.TheVariants.{Change, Describe, Scrape}
-use Rattle.tool_requests.specs.Lines.{escape, escaped, IsQuotable, IsText, IsName, CanBeValue, value_word, Written, IsWritten}
-use Rattle.tool_requests.specs.Lines.{label_word, label_words, LacksKey, HasRoom, AreWritten, in_order, with_labels, change, describe, scrape, Reads, Fails}
-use Rattle.tool_requests.proofs.EscapeLemmas.{escaped-same, starts-else}
-use Rattle.tool_requests.proofs.LabelLemmas.{QuotedSoFar, quoted-fails, LabelsSoFar, labels-fail, starts-words}
+use Rattle.tool_requests.specs.Lines.{escaped, IsQuotable, IsText, IsName, CanBeValue, value_word, Written, IsWritten}
+use Rattle.tool_requests.specs.Lines.{label_word, label_words, AreWritten, in_order, with_labels, change, describe, scrape, Reads, Fails}
+use Rattle.tool_requests.proofs.EscapeLemmas.{escaped-same}
+use Rattle.tool_requests.proofs.LabelLemmas.{starts-words}
 use Rattle.tool_requests.proofs.SentenceLemmas.{lacks_name}
 
 -- ---- values
 
-pub no-bare : (bytes : List ℕ) (e : Unread)
-    → Fails ((text r : List ℕ) → IsText text → Lacks 32 text → StartsAt 32 r → bytes ≡ text ++ r → ⊥) e
-    → Fails ((value r : List ℕ) → CanBeValue false value → StartsAt 32 r → bytes ≡ value ++ r → ⊥) e
-no-bare bytes Memory none = tt
-no-bare bytes (Bad cause at) none = λ value r can sr e. none value r can.0 can.1 sr e
+pub no-bare : (bytes : List ℕ) → ((text r : List ℕ) → IsText text → Lacks 32 text → StartsAt 32 r → bytes ≡ text ++ r → ⊥)
+    → (value r : List ℕ) → CanBeValue false value → StartsAt 32 r → bytes ≡ value ++ r → ⊥
+no-bare bytes none value r can = none value r can.0 can.1
 
 -- a quoted value is read up to its quote in one way
 pub not-closed : (bytes value rest : List ℕ) → bytes ≡ escaped value ++ 34 ∷ rest → (StartsAt 32 rest → ⊥)
@@ -39,28 +38,13 @@ pub not-closed : (bytes value rest : List ℕ) → bytes ≡ escaped value ++ 34
 not-closed bytes value rest is none v r h starts e =
     none (subst (StartsAt 32) (sym (escaped-same value v rest r (sym is ∙ e)).1) starts)
 
-pub no-quoted : (bytes value rest : List ℕ) (e : Unread) → bytes ≡ escaped value ++ 34 ∷ rest
-    → Fails (IsUtf8 value → ⊥) e
-    → Fails ((v r : List ℕ) → CanBeValue true v → StartsAt 32 r → 34 ∷ bytes ≡ value_word true v ++ r → ⊥) e
-no-quoted bytes value rest Memory is none = tt
-no-quoted bytes value rest (Bad cause at) is none = λ v r can starts e.
+pub no-quoted : (bytes value rest : List ℕ) → bytes ≡ escaped value ++ 34 ∷ rest → (IsUtf8 value → ⊥)
+    → (v r : List ℕ) → CanBeValue true v → StartsAt 32 r → 34 ∷ bytes ≡ value_word true v ++ r → ⊥
+no-quoted bytes value rest is none v r can starts e =
     let tail = ap (drop 1) e ∙ append_assoc (escaped v) (34 ∷ []) r in
     none (subst IsUtf8 (sym (escaped-same value v rest r (sym is ∙ tail)).0) can.1)
 
-pub quoted-err : (bytes rest value : List ℕ) (e : Unread) → QuotedSoFar bytes rest value
-    → ((r : List ℕ) → rest ≡ 34 ∷ r → ⊥)
-    → Fails ((c : ℕ) (more : List ℕ) → IsQuotable c → rest ≡ escape c ++ more → ⊥) e
-    → Fails ((v r : List ℕ) → AllByRecursion IsQuotable v → bytes ≡ escaped v ++ 34 ∷ r → ⊥) e
-quoted-err bytes rest value Memory so none fails = tt
-quoted-err bytes rest value (Bad cause at) so none fails = quoted-fails bytes rest value so (starts-else 34 rest none) fails
-
 -- ---- keys
-
-take-all : (n : ℕ) (xs : List ℕ) → length xs ≤ n → take n xs ≡ xs
-take-all zero [] le = refl
-take-all (suc n) [] le = refl
-take-all zero (x ∷ xs) le = absurd (omega arith)
-take-all (suc n) (x ∷ xs) le = ap (λ z. x ∷ z) (take-all n xs (omega (arith, le)))
 
 module _ (bytes key value : List ℕ) (is : bytes ≡ key ++ 61 ∷ value) (lacks : Lacks 61 key) where
   pub has-space : (p : ℕ) → p < length key → get_or key p 0 ≡ 32
@@ -68,17 +52,15 @@ module _ (bytes key value : List ℕ) (is : bytes ≡ key ++ 61 ∷ value) (lack
   has-space p small at k r text spaces equals e =
       subst (Lacks 32) (sym (first_same 61 bytes key value k r lacks equals is e).0) spaces p 0 small at
 
-  pub no-key : (e : Unread) → Fails (IsText key → ⊥) e
-      → Fails ((k r : List ℕ) → IsText k → Lacks 32 k → Lacks 61 k → bytes ≡ k ++ 61 ∷ r → ⊥) e
-  no-key Memory none = tt
-  no-key (Bad cause at) none = λ k r text spaces equals e.
+  pub no-key : (IsText key → ⊥) → (k r : List ℕ) → IsText k → Lacks 32 k → Lacks 61 k → bytes ≡ k ++ 61 ∷ r → ⊥
+  no-key none k r text spaces equals e =
       none (subst IsText (sym (first_same 61 bytes key value k r lacks equals is e).0) text)
 
   pub key-found : (p : ℕ) (text : List ℕ) → length key ≤ p → Lacks 32 (take p key) → IsText key → text ≡ key
       → IsText text × Lacks 32 text × Lacks 61 text × (bytes ≡ text ++ 61 ∷ value)
   key-found p text le spaces h same =
       subst (λ k. IsText k × Lacks 32 k × Lacks 61 k × (bytes ≡ k ++ 61 ∷ value)) (sym same)
-      (h, subst (Lacks 32) (take-all p key le) spaces, lacks, is)
+      (h, subst (Lacks 32) (take_all p key le) spaces, lacks, is)
 
 -- ---- a label
 
@@ -104,12 +86,6 @@ module _ (bytes others key value : List ℕ) (begins : bytes ≡ 32 ∷ others) 
       let same = first_same 61 others key value w.key (value_word w.quoted w.value ++ rest) equals written.2 is tail in
       h w.quoted w.value rest written.3 starts same.1
 
-pub labels-err : (bytes rest : List ℕ) (labels : List LabelParts) (e : Unread) → LabelsSoFar bytes rest labels → 0 < length rest
-    → Fails ((w : Written) (r : List ℕ) → IsWritten w → StartsAt 32 r → rest ≡ label_word w ++ r → LacksKey w.key labels → HasRoom labels → ⊥) e
-    → Fails ((ws : List Written) → AreWritten ws → bytes ≡ label_words ws → ⊥) e
-labels-err bytes rest labels Memory so some none = tt
-labels-err bytes rest labels (Bad cause at) so some none = labels-fail bytes rest labels so some none
-
 -- ---- the text of a description
 
 pub note-read : {T : Type 0} (bytes word : List ℕ) (now : T → List ℕ) (r : Result T Unread) → bytes ≡ 32 ∷ word
@@ -133,21 +109,19 @@ module _ (bytes word rest : List ℕ) (is : bytes ≡ 32 ∷ (word ++ rest)) (la
       → (unit : Option Measure) (r : List ℕ) → StartsAt 32 r → bytes ≡ 32 ∷ (unit_word unit ++ r) → ⊥
   no-unit none unit r sr e = none unit (same-word (unit_word unit) r (lacks_unit unit) sr e).0
 
-  pub no-name : (e : Unread) → Fails ((name : List ℕ) → IsName name → word ≡ name_word name → ⊥) e
-      → Fails ((name r : List ℕ) → IsName name → StartsAt 32 r → bytes ≡ 32 ∷ (name_word name ++ r) → ⊥) e
-  no-name Memory none = tt
-  no-name (Bad cause at) none = λ name r h sr e. none name h (same-word (name_word name) r (lacks_name name h) sr e).0
+  pub no-name : ((name : List ℕ) → IsName name → word ≡ name_word name → ⊥)
+      → (name r : List ℕ) → IsName name → StartsAt 32 r → bytes ≡ 32 ∷ (name_word name ++ r) → ⊥
+  no-name none name r h sr e = none name h (same-word (name_word name) r (lacks_name name h) sr e).0
 
 text-name : (name : List ℕ) → IsName name → IsText (name_word name)
 text-name [] h =
     ((λ k d small. (grind arith, λ e. grind (arith, e))), IsUtf8-from_ascii (codes "-") (IsAscii-from_all (codes "-") (λ k d small. grind arith)))
 text-name (x ∷ xs) h = h.0
 
-pub no-name-text : (bytes others : List ℕ) (e : Unread) → bytes ≡ 32 ∷ others
-    → Fails ((text r : List ℕ) → IsText text → Lacks 32 text → StartsAt 32 r → others ≡ text ++ r → ⊥) e
-    → Fails ((name r : List ℕ) → IsName name → StartsAt 32 r → bytes ≡ 32 ∷ (name_word name ++ r) → ⊥) e
-no-name-text bytes others Memory is none = tt
-no-name-text bytes others (Bad cause at) is none = λ name r h sr e.
+pub no-name-text : (bytes others : List ℕ) → bytes ≡ 32 ∷ others
+    → ((text r : List ℕ) → IsText text → Lacks 32 text → StartsAt 32 r → others ≡ text ++ r → ⊥)
+    → (name r : List ℕ) → IsName name → StartsAt 32 r → bytes ≡ 32 ∷ (name_word name ++ r) → ⊥
+no-name-text bytes others is none name r h sr e =
     none (name_word name) r (text-name name h) (lacks_name name h) sr (ap (drop 1) (sym is ∙ e))
 
 -- ---- an update
@@ -156,10 +130,9 @@ abbrev pub IsNoChange : Dialect → List ℕ → List ℕ → Type 0
 IsNoChange dialect word bytes = (by : Update) (amount name : List ℕ) (ws : List Written) → IsAmount (places_at dialect.places name) by amount → IsName name
     → AreWritten ws → word ≡ update_word by → bytes ≡ 32 ∷ (amount ++ 32 ∷ (name_word name ++ label_words ws)) → ⊥
 
-pub no-change-space : (dialect : Dialect) (word bytes : List ℕ) (e : Unread) → Fails ((rest : List ℕ) → bytes ≡ 32 ∷ rest → ⊥) e
-    → Fails (IsNoChange dialect word bytes) e
-no-change-space dialect word bytes Memory none = tt
-no-change-space dialect word bytes (Bad cause at) none = λ u a n ws h hn hw w e. none (a ++ 32 ∷ (name_word n ++ label_words ws)) e
+pub no-change-space : (dialect : Dialect) (word bytes : List ℕ) → ((rest : List ℕ) → bytes ≡ 32 ∷ rest → ⊥)
+    → IsNoChange dialect word bytes
+no-change-space dialect word bytes none u a n ws h hn hw w e = none (a ++ 32 ∷ (name_word n ++ label_words ws)) e
 
 -- the amount was read
 module _ (dialect : Dialect) (word bytes amount rest : List ℕ) (is : bytes ≡ 32 ∷ (amount ++ rest)) (lacks : Lacks 32 amount)
@@ -169,10 +142,9 @@ module _ (dialect : Dialect) (word bytes amount rest : List ℕ) (is : bytes ≡
   behind-amount places u a more h e =
       before_same 32 amount a rest (32 ∷ more) lacks (amount-lacks places u a h) starts refl (ap (drop 1) (sym is ∙ e))
 
-  pub no-change-name : (e : Unread) → Fails ((name r : List ℕ) → IsName name → StartsAt 32 r → rest ≡ 32 ∷ (name_word name ++ r) → ⊥) e
-      → Fails (IsNoChange dialect word bytes) e
-  no-change-name Memory none = tt
-  no-change-name (Bad cause at) none = λ u a name ws h hn hw w e.
+  pub no-change-name : ((name r : List ℕ) → IsName name → StartsAt 32 r → rest ≡ 32 ∷ (name_word name ++ r) → ⊥)
+      → IsNoChange dialect word bytes
+  no-change-name none u a name ws h hn hw w e =
       none name (label_words ws) hn (starts-words ws) (behind-amount _ u a _ h e).1
 
   module _ (name after : List ℕ) (hn : IsName name) (cut : rest ≡ 32 ∷ (name_word name ++ after)) (stops : StartsAt 32 after) where
@@ -184,18 +156,14 @@ module _ (dialect : Dialect) (word bytes amount rest : List ℕ) (is : bytes ≡
         (ap (drop 1) (sym cut ∙ names)) in
         (amounts, name_same name n (hn.0.1, hn.1, hn.2) (h'.0.1, h'.1, h'.2) both.0, both.1)
 
-    pub no-change-amount : (e : Unread)
-        → Fails ((by : Update) → IsAmount (places_at dialect.places name) by amount → word ≡ update_word by → ⊥) e
-        → Fails (IsNoChange dialect word bytes) e
-    no-change-amount Memory none = tt
-    no-change-amount (Bad cause at) none = λ u a n ws h h' hw w e.
+    pub no-change-amount : ((by : Update) → IsAmount (places_at dialect.places name) by amount → word ≡ update_word by → ⊥)
+        → IsNoChange dialect word bytes
+    no-change-amount none u a n ws h h' hw w e =
         let (amounts, names, others) = behind-name u a n ws h h' e in
         none u (subst (λ (z : List ℕ). IsAmount (places_at dialect.places z) u amount) (sym names) (subst (IsAmount (places_at dialect.places n) u) (sym amounts) h)) w
 
-    pub no-change-labels : (e : Unread) → Fails ((ws : List Written) → AreWritten ws → after ≡ label_words ws → ⊥) e
-        → Fails (IsNoChange dialect word bytes) e
-    no-change-labels Memory none = tt
-    no-change-labels (Bad cause at) none = λ u a n ws h h' hw w e. none ws hw (behind-name u a n ws h h' e).2
+    pub no-change-labels : ((ws : List Written) → AreWritten ws → after ≡ label_words ws → ⊥) → IsNoChange dialect word bytes
+    no-change-labels none u a n ws h h' hw w e = none ws hw (behind-name u a n ws h h' e).2
 
     pub change-read : (by : Update) (own labels : List LabelParts) → IsAmount (places_at dialect.places name) by amount → word ≡ update_word by
         → ((ws : List Written) × AreWritten ws × (own ≡ in_order ws) × (after ≡ label_words ws))
@@ -225,17 +193,13 @@ module _ (bytes : List ℕ) (kind : MetricKind) (rest : List ℕ) (is : bytes �
         (before_same 32 (name_word name) (name_word n) after (32 ∷ more) (lacks_name name hn) (lacks_name n h) stops refl
         (ap (drop 1) (sym cut ∙ behind-kind k _ e))).1
 
-    pub no-description-unit : (e : Unread)
-        → Fails ((unit : Option Measure) (r : List ℕ) → StartsAt 32 r → after ≡ 32 ∷ (unit_word unit ++ r) → ⊥) e
-        → Fails (IsNoDescription bytes) e
-    no-description-unit Memory none = tt
-    no-description-unit (Bad cause at) none = λ k n u text h utf8 e. none u (32 ∷ text) refl (behind-named k n _ h e)
+    pub no-description-unit : ((unit : Option Measure) (r : List ℕ) → StartsAt 32 r → after ≡ 32 ∷ (unit_word unit ++ r) → ⊥)
+        → IsNoDescription bytes
+    no-description-unit none k n u text h utf8 e = none u (32 ∷ text) refl (behind-named k n _ h e)
 
     module _ (unit : Option Measure) (last : List ℕ) (measured : after ≡ 32 ∷ (unit_word unit ++ last)) (ends : StartsAt 32 last) where
-      pub no-description-text : (e : Unread) → Fails ((text : List ℕ) → IsText text → last ≡ 32 ∷ text → ⊥) e
-          → Fails (IsNoDescription bytes) e
-      no-description-text Memory none = tt
-      no-description-text (Bad cause at) none = λ k n u text h utf8 e.
+      pub no-description-text : ((text : List ℕ) → IsText text → last ≡ 32 ∷ text → ⊥) → IsNoDescription bytes
+      no-description-text none k n u text h utf8 e =
           none text utf8 (before_same 32 (unit_word unit) (unit_word u) last (32 ∷ text) (lacks_unit unit) (lacks_unit u) ends refl
           (ap (drop 1) (sym measured ∙ behind-named k n _ h e))).1
 

@@ -46,9 +46,6 @@ behind_it empty = []
 lacks_scrape : Lacks 32 (codes "scrape")
 lacks_scrape = lacks_literal 32 (codes "scrape") refl
 
-lacks_describe : Lacks 32 (codes "describe")
-lacks_describe = lacks_literal 32 (codes "describe") refl
-
 pub differs : codes "scrape" ≡ codes "describe" → ⊥
 differs e = false≢true ((bytes_eq-Decides (codes "scrape") (codes "describe")).1 e)
 
@@ -80,7 +77,7 @@ IsOther empty = ⊥
 module _ (word rest : List ℕ) (lacks : Lacks 32 word) (starts : StartsAt 32 rest) (begun : IsBegun (word ++ rest)) where
   pub cut : (s : Sentence) → word ++ rest ≡ spelling s → IsOther s × (word ≡ first_word s) × (rest ≡ behind_it s)
   cut (change by amount name ws) e = let b = before_same 32 word (update_word by) rest _ lacks (lacks_update by) starts refl e in (tt, b.0, b.1)
-  cut (describe kind name unit text) e = let b = before_same 32 word (codes "describe") rest _ lacks lacks_describe starts refl e in (tt, b.0, b.1)
+  cut (describe kind name unit text) e = let b = before_same 32 word (codes "describe") rest _ lacks (lacks_literal 32 (codes "describe") refl) starts refl e in (tt, b.0, b.1)
   cut (scrape now) e = let b = before_same 32 word (codes "scrape") rest (32 ∷ decimal now) lacks lacks_scrape starts refl e in (tt, b.0, b.1)
   cut scrape_by_clock e = let b = before_same 32 word (codes "scrape") rest [] lacks lacks_scrape starts tt e in (tt, b.0, b.1)
   cut (comment text) e = absurd (subst IsBegun e begun refl)

@@ -1,5 +1,5 @@
-use Rattle.std.proofs.lemmas.Result.{err_from_is_err_and}
 use Rattle.tool_requests.proofs.ReadLemmas.{has-space, no-key, key-found}
+use Rattle.tool_requests.proofs.WordLemmas.{passed-on}
 use Rattle.tool_requests.proofs.labels.key_and_value.Goals as goal
 
 pub returns-then-place_of-key : goal.returns-then-place_of-key
@@ -8,8 +8,8 @@ returns-then-place_of-key c = has-space c.args.bytes.now c.in-Some.key.now c.in-
 
 pub returns-in_err-key : goal.returns-in_err-key
 returns-in_err-key c =
-    let p = err_from_is_err_and c.from_residual.result c.from_residual.ensures.1 in
-    rw (p.1, p.2) (no-key c.args.bytes.now c.in-Some.key.now c.in-Some.value.now c.in-Some.ensures.0 c.in-Some.ensures.1 c.in_err-key.field-0.0 c.in_err-key.ensures)
+    passed-on _ c.from_residual.result c.in_err-key.field-0.0 c.from_residual.ensures.1
+    (no-key c.args.bytes.now c.in-Some.key.now c.in-Some.value.now c.in-Some.ensures.0 c.in-Some.ensures.1) c.in_err-key.ensures
 
 pub returns : goal.returns
 returns c = key-found c.args.bytes.now c.in-Some.key.now c.in-Some.value.now c.in-Some.ensures.0 c.in-Some.ensures.1 c.place_of.result c.in_ok-key.key.now c.if-place_of-key.false
