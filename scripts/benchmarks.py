@@ -5,9 +5,8 @@
 
 OURS and THEIRS are what several runs of the benchmarks printed, ours and the peers': lines `name ns_per_op`, each the least
 of its rounds, and lines `# name median ns_per_op`. A row of a table with a ratio names ours and, after 'beside', the other
-side's if it has another name. Its figure is the least of the runs, with the middle one in brackets, and its ratio is of
-the least. A row of four threads uses the medians of the rounds, and its ratio the middle one: when threads write one
-word, the least is of the round in which they overlapped least. Without words it draws the chart of the present figures."""
+side's if it has another name. Its figure is the middle one of the runs' medians, with the least round of all in brackets, and
+its ratio is of the middle ones. Without words it draws the chart of the present figures."""
 import html
 import math
 import os
@@ -23,25 +22,21 @@ ALONE = re.compile(r"^\| `(\w+)` \| [^|]* \|$")
 PEERS = ("The Rust crate, ns", "`prometheus`, ns")
 
 
-def goes_by_medians(name):
-    return name.endswith("_4t")
-
-
 def figures(path):
-    """Returns the runs' figures by name."""
-    found = {}
+    """Returns by name what a row shows: the middle one of the runs' medians, and the least. What has no rounds, as bytes, is
+    shown by the middle run."""
+    least, medians = {}, {}
     for line in open(path):
         words = line.split()
-        if len(words) == 2 and not goes_by_medians(words[0]):
-            found.setdefault(words[0], []).append(float(words[1]))
-        if len(words) == 4 and words[0] == "#" and words[2] == "median" and goes_by_medians(words[1]):
-            found.setdefault(words[1], []).append(float(words[3]))
-    return found
+        if len(words) == 2:
+            least.setdefault(words[0], []).append(float(words[1]))
+        if len(words) == 4 and words[0] == "#" and words[2] == "median":
+            medians.setdefault(words[1], []).append(float(words[3]))
+    return {name: (statistics.median(medians.get(name, runs)), min(runs)) for name, runs in least.items()}
 
 
-def shown(runs):
-    least, middle = min(runs), statistics.median(runs)
-    return " (".join(f"{n:.0f}" if n >= 1000 else f"{n:.4g}" for n in (least, middle)) + ")"
+def shown(figure):
+    return " (".join(f"{n:.0f}" if n >= 1000 else f"{n:.4g}" for n in figure) + ")"
 
 
 def rewritten(line, ours, theirs):
@@ -57,8 +52,7 @@ def rewritten(line, ours, theirs):
     if not mine or not other:
         return line
     names = f"`{name}`" + (f", beside `{beside}`" if beside else "")
-    of = statistics.median if goes_by_medians(name) else min
-    return f"| {names} | {text} | {shown(mine)} | {shown(other)} | {of(mine) / of(other):.2f} |"
+    return f"| {names} | {text} | {shown(mine)} | {shown(other)} | {mine[0] / other[0]:.2f} |"
 
 
 def chart(rows):
